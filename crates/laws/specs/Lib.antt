@@ -1,0 +1,16 @@
+pub mod Search
+pub mod Tests
+pub mod Faults
+pub mod Sums
+pub mod Permutations
+pub mod Modular
+pub mod Bytes
+pub mod Masks
+pub mod Tables
+pub mod Sorting
+pub mod Merging
+pub mod Permuting
+pub mod Chunks
+pub mod At
+pub mod Writing
+pub mod Spans
