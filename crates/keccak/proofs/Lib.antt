@@ -1,0 +1,3 @@
+pub mod Xor
+pub mod Complement
+pub mod Numbers

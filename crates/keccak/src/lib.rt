@@ -1,0 +1,329 @@
+// Keccak-f[1600] of FIPS 202, section 3.4.
+//
+// Between the rounds six lanes are kept complemented, which saves most of the complements that chi asks for. The rounds work on five
+// rows of five lanes, and four rounds are written out: the compiler then keeps the lanes in registers and moves few of them.
+ghost use mathlib.Core.Path.{_≡_};
+ghost use Prim.Native.Nat.{_<_, _≤_};
+ghost use lib.Bits.{bitXor};
+ghost use Rattle.keccak.specs.Keccak.{at, rotl, keccakF};
+ghost use Rattle.keccak.specs.Rows.{numbers, rowAt, flat, sides, turnedOf, gathered, chi0Of, chi1Of, chi2Of, chi3Of, chi4Of, codeRound, flipped};
+
+const ROUND_CONSTANTS: [u64; 24] = [
+    0x0000000000000001,
+    0x0000000000008082,
+    0x800000000000808a,
+    0x8000000080008000,
+    0x000000000000808b,
+    0x0000000080000001,
+    0x8000000080008081,
+    0x8000000000008009,
+    0x000000000000008a,
+    0x0000000000000088,
+    0x0000000080008009,
+    0x000000008000000a,
+    0x000000008000808b,
+    0x800000000000008b,
+    0x8000000000008089,
+    0x8000000000008003,
+    0x8000000000008002,
+    0x8000000000000080,
+    0x000000000000800a,
+    0x800000008000000a,
+    0x8000000080008081,
+    0x8000000000008080,
+    0x0000000080000001,
+    0x8000000080008008,
+];
+
+const ROTATION_OFFSETS: [u32; 25] = [
+    0,
+    1,
+    62,
+    28,
+    27,
+    36,
+    44,
+    6,
+    55,
+    20,
+    3,
+    10,
+    43,
+    25,
+    39,
+    41,
+    45,
+    15,
+    21,
+    8,
+    18,
+    2,
+    61,
+    56,
+    14,
+];
+
+// x rotated left by k bits.
+fn turn(x: u64, k: u32) -> u64
+    requires { ⌜ k < 64 ⌝ }
+    ensures { λ r. ⌜ r ≡ rotl x k ⌝ }
+{
+    (x << k) | (x >> ((64 - k) % 64))
+}
+
+// The parity of column x.
+fn parity(p: [u64; 5], q: [u64; 5], r: [u64; 5], s: [u64; 5], t: [u64; 5], x: usize) -> u64
+    requires { ⌜ x < 5 ⌝ }
+    ensures { λ c. ⌜ c ≡ bitXor (bitXor (bitXor (bitXor (at p x) (at q x)) (at r x)) (at s x)) (at t x) ⌝ }
+{
+    p[x] ^ q[x] ^ r[x] ^ s[x] ^ t[x]
+}
+
+// What theta adds to each column.
+fn mix(p: [u64; 5], q: [u64; 5], r: [u64; 5], s: [u64; 5], t: [u64; 5]) -> [u64; 5]
+    ensures { λ d. ⌜ d ≡ sides p q r s t ⌝ }
+{
+    let c0 = parity(p, q, r, s, t, 0);
+    let c1 = parity(p, q, r, s, t, 1);
+    let c2 = parity(p, q, r, s, t, 2);
+    let c3 = parity(p, q, r, s, t, 3);
+    let c4 = parity(p, q, r, s, t, 4);
+    [
+        c4 ^ turn(c1, 1),
+        c0 ^ turn(c2, 1),
+        c1 ^ turn(c3, 1),
+        c2 ^ turn(c4, 1),
+        c3 ^ turn(c0, 1),
+    ]
+}
+
+// Lane x of the row y after theta and rho, where theta adds d.
+fn turned(row: [u64; 5], d: [u64; 5], y: usize, x: usize) -> u64
+    requires { ⌜ (y < 5) × (x < 5) ⌝ }
+    ensures { λ r. ⌜ r ≡ turnedOf numbers (at row) (at d) y x ⌝ }
+{
+    turn(row[x] ^ d[x], ROTATION_OFFSETS[5 * y + x])
+}
+
+// The rows of a round: chi on the five lanes that pi brings into the row, with a complement only where the lanes that are kept
+// complemented ask for one. Row 0 has iota's constant too.
+fn row0(
+    p: [u64; 5],
+    q: [u64; 5],
+    r: [u64; 5],
+    s: [u64; 5],
+    t: [u64; 5],
+    d: [u64; 5],
+    c: u64,
+) -> [u64; 5]
+    ensures { λ e. ⌜ e ≡ gathered p q r s t d 0 (chi0Of numbers c) ⌝ }
+{
+    let b0 = turned(p, d, 0, 0);
+    let b1 = turned(q, d, 1, 1);
+    let b2 = turned(r, d, 2, 2);
+    let b3 = turned(s, d, 3, 3);
+    let b4 = turned(t, d, 4, 4);
+    [
+        b0 ^ (b1 | b2) ^ c,
+        b1 ^ (!b2 | b3),
+        b2 ^ (b3 & b4),
+        b3 ^ (b4 | b0),
+        b4 ^ (b0 & b1),
+    ]
+}
+
+fn row1(p: [u64; 5], q: [u64; 5], r: [u64; 5], s: [u64; 5], t: [u64; 5], d: [u64; 5]) -> [u64; 5]
+    ensures { λ e. ⌜ e ≡ gathered p q r s t d 3 (chi1Of numbers) ⌝ }
+{
+    let b0 = turned(p, d, 0, 3);
+    let b1 = turned(q, d, 1, 4);
+    let b2 = turned(r, d, 2, 0);
+    let b3 = turned(s, d, 3, 1);
+    let b4 = turned(t, d, 4, 2);
+    [
+        b0 ^ (b1 | b2),
+        b1 ^ (b2 & b3),
+        b2 ^ (b3 | !b4),
+        b3 ^ (b4 | b0),
+        b4 ^ (b0 & b1),
+    ]
+}
+
+fn row2(p: [u64; 5], q: [u64; 5], r: [u64; 5], s: [u64; 5], t: [u64; 5], d: [u64; 5]) -> [u64; 5]
+    ensures { λ e. ⌜ e ≡ gathered p q r s t d 1 (chi2Of numbers) ⌝ }
+{
+    let b0 = turned(p, d, 0, 1);
+    let b1 = turned(q, d, 1, 2);
+    let b2 = turned(r, d, 2, 3);
+    let b3 = turned(s, d, 3, 4);
+    let b4 = turned(t, d, 4, 0);
+    [
+        b0 ^ (b1 | b2),
+        b1 ^ (b2 & b3),
+        b2 ^ (!b3 & b4),
+        !b3 ^ (b4 | b0),
+        b4 ^ (b0 & b1),
+    ]
+}
+
+fn row3(p: [u64; 5], q: [u64; 5], r: [u64; 5], s: [u64; 5], t: [u64; 5], d: [u64; 5]) -> [u64; 5]
+    ensures { λ e. ⌜ e ≡ gathered p q r s t d 4 (chi3Of numbers) ⌝ }
+{
+    let b0 = turned(p, d, 0, 4);
+    let b1 = turned(q, d, 1, 0);
+    let b2 = turned(r, d, 2, 1);
+    let b3 = turned(s, d, 3, 2);
+    let b4 = turned(t, d, 4, 3);
+    [
+        b0 ^ (b1 & b2),
+        b1 ^ (b2 | b3),
+        b2 ^ (!b3 | b4),
+        !b3 ^ (b4 & b0),
+        b4 ^ (b0 | b1),
+    ]
+}
+
+fn row4(p: [u64; 5], q: [u64; 5], r: [u64; 5], s: [u64; 5], t: [u64; 5], d: [u64; 5]) -> [u64; 5]
+    ensures { λ e. ⌜ e ≡ gathered p q r s t d 2 (chi4Of numbers) ⌝ }
+{
+    let b0 = turned(p, d, 0, 2);
+    let b1 = turned(q, d, 1, 3);
+    let b2 = turned(r, d, 2, 4);
+    let b3 = turned(s, d, 3, 0);
+    let b4 = turned(t, d, 4, 1);
+    [
+        b0 ^ (!b1 & b2),
+        !b1 ^ (b2 | b3),
+        b2 ^ (b3 & b4),
+        b3 ^ (b4 | b0),
+        b4 ^ (b0 & b1),
+    ]
+}
+
+// The row of a state that starts at lane k.
+fn cut(a: [u64; 25], k: usize) -> [u64; 5]
+    requires { ⌜ k ≤ 20 ⌝ }
+    ensures { λ p. ⌜ p ≡ rowAt a k ⌝ }
+{
+    [a[k], a[k + 1], a[k + 2], a[k + 3], a[k + 4]]
+}
+
+// The state that five rows make.
+fn joined(p: [u64; 5], q: [u64; 5], r: [u64; 5], s: [u64; 5], t: [u64; 5]) -> [u64; 25]
+    ensures { λ a. ⌜ a ≡ flat p q r s t ⌝ }
+{
+    [
+        p[0],
+        p[1],
+        p[2],
+        p[3],
+        p[4],
+        q[0],
+        q[1],
+        q[2],
+        q[3],
+        q[4],
+        r[0],
+        r[1],
+        r[2],
+        r[3],
+        r[4],
+        s[0],
+        s[1],
+        s[2],
+        s[3],
+        s[4],
+        t[0],
+        t[1],
+        t[2],
+        t[3],
+        t[4],
+    ]
+}
+
+// Four rounds, with the constants k0 to k3.
+fn rounds(a: [u64; 25], k0: u64, k1: u64, k2: u64, k3: u64) -> [u64; 25]
+    ensures { λ r. ⌜ r ≡ codeRound k3 (codeRound k2 (codeRound k1 (codeRound k0 a))) ⌝ }
+{
+    let p0 = cut(a, 0);
+    let q0 = cut(a, 5);
+    let r0 = cut(a, 10);
+    let s0 = cut(a, 15);
+    let t0 = cut(a, 20);
+    let d0 = mix(p0, q0, r0, s0, t0);
+    let p1 = row0(p0, q0, r0, s0, t0, d0, k0);
+    let q1 = row1(p0, q0, r0, s0, t0, d0);
+    let r1 = row2(p0, q0, r0, s0, t0, d0);
+    let s1 = row3(p0, q0, r0, s0, t0, d0);
+    let t1 = row4(p0, q0, r0, s0, t0, d0);
+    let d1 = mix(p1, q1, r1, s1, t1);
+    let p2 = row0(p1, q1, r1, s1, t1, d1, k1);
+    let q2 = row1(p1, q1, r1, s1, t1, d1);
+    let r2 = row2(p1, q1, r1, s1, t1, d1);
+    let s2 = row3(p1, q1, r1, s1, t1, d1);
+    let t2 = row4(p1, q1, r1, s1, t1, d1);
+    let d2 = mix(p2, q2, r2, s2, t2);
+    let p3 = row0(p2, q2, r2, s2, t2, d2, k2);
+    let q3 = row1(p2, q2, r2, s2, t2, d2);
+    let r3 = row2(p2, q2, r2, s2, t2, d2);
+    let s3 = row3(p2, q2, r2, s2, t2, d2);
+    let t3 = row4(p2, q2, r2, s2, t2, d2);
+    let d3 = mix(p3, q3, r3, s3, t3);
+    let p4 = row0(p3, q3, r3, s3, t3, d3, k3);
+    let q4 = row1(p3, q3, r3, s3, t3, d3);
+    let r4 = row2(p3, q3, r3, s3, t3, d3);
+    let s4 = row3(p3, q3, r3, s3, t3, d3);
+    let t4 = row4(p3, q3, r3, s3, t3, d3);
+    joined(p4, q4, r4, s4, t4)
+}
+
+// The state with the six lanes complemented.
+fn flip(a: [u64; 25]) -> [u64; 25]
+    ensures { λ r. ⌜ r ≡ flipped a ⌝ }
+{
+    [
+        a[0],
+        !a[1],
+        !a[2],
+        a[3],
+        a[4],
+        a[5],
+        a[6],
+        a[7],
+        !a[8],
+        a[9],
+        a[10],
+        a[11],
+        !a[12],
+        a[13],
+        a[14],
+        a[15],
+        a[16],
+        !a[17],
+        a[18],
+        a[19],
+        !a[20],
+        a[21],
+        a[22],
+        a[23],
+        a[24],
+    ]
+}
+
+// Keccak-f[1600].
+pub fn permute(a: [u64; 25]) -> [u64; 25]
+    ensures { λ r. ⌜ r ≡ keccakF a ⌝ }
+{
+    let mut b = flip(a);
+    for i in 0..6 {
+        let t = rounds(
+            b,
+            ROUND_CONSTANTS[i * 4],
+            ROUND_CONSTANTS[i * 4 + 1],
+            ROUND_CONSTANTS[i * 4 + 2],
+            ROUND_CONSTANTS[i * 4 + 3],
+        );
+        b = t;
+    }
+    flip(b)
+}
