@@ -1,0 +1,5 @@
+pub mod Laws
+pub mod Taking
+pub mod Squeeze
+pub mod Agree
+pub mod Digest

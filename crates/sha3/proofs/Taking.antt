@@ -1,0 +1,83 @@
+-- Laws of absorbing: a byte, a word, bytes that leave room, and a message in pieces. Assumes nothing.
+use mathlib.Core.Path.{_≡_, refl, sym, ap, ap₂, _∙_, subst}
+use mathlib.Core.Bool.{Bool}
+use mathlib.Core.List.{List, [], _∷_, _++_}
+use Prim.Native.Nat.{ℕ, _+_, _*_, _/_, _%_, _≤_, _<_}
+use mathlib.Core.Logic.{_⊎_, inl, inr}
+use native.Mathlib.Nat.{not-suc-le-zero, eq-or-lt-of-le}
+use native.Mathlib.Numerals.{add-one}
+use native.Mathlib.Omega.{arith}
+use lib.ListN.{length, set, take, drop, take-append-drop}
+use lib.Bits.{bitXor}
+use lib.Seq.{drop-cons, drop-drop}
+use borrow.Author.Tests.{eq-eqb, ne-eqb}
+use Rattle.keccak.specs.Keccak.{at, keccakF}
+use Rattle.sha3.specs.declared.Sponge.{Sponge}
+use Rattle.sha3.specs.Sha3.{Rate, xorByte, turn, absorbByte, absorbBytes, pick, empty}
+use Rattle.sha3.specs.Word.{wordAt}
+use Rattle.sha3.proofs.Laws.{xorBytes, take-eight, eight}
+
+abbrev pub sponge : List ℕ → ℕ → Sponge
+sponge l n = record { lanes = l; fill = n }
+
+module _ (rate : ℕ) where
+  pub turn-full : (l : List ℕ) (n : ℕ) → n ≡ rate → turn rate l n ≡ sponge (keccakF l) 0
+  unfolding turn
+  turn-full l n e = ap (λ (t : Bool). pick t (sponge (keccakF l) 0) (sponge l n)) (eq-eqb n rate e)
+
+  pub turn-more : (l : List ℕ) (n : ℕ) → (n ≡ rate → ⊥) → turn rate l n ≡ sponge l n
+  unfolding turn
+  turn-more l n f = ap (λ (t : Bool). pick t (sponge (keccakF l) 0) (sponge l n)) (ne-eqb n rate f)
+
+  pub byte-law : (p l : List ℕ) (n i : ℕ) → i < length p →
+      absorbBytes rate (sponge l n) (drop i p) ≡ absorbBytes rate (turn rate (xorByte l n (at p i)) (n + 1)) (drop (i + 1) p)
+  unfolding absorbBytes absorbByte
+  byte-law p l n i h = ap (absorbBytes rate (sponge l n)) (drop-cons p i 0 h ∙ ap (λ (k : ℕ). at p i ∷ drop k p) (sym (add-one i)))
+
+  -- bytes that the sponge has room for, and then the rest
+  pub takes : (bs rest l : List ℕ) (n : ℕ) → 0 < length bs → n + length bs ≤ rate →
+      absorbBytes rate (sponge l n) (bs ++ rest) ≡ absorbBytes rate (turn rate (xorBytes l n bs) (n + length bs)) rest
+  unfolding absorbBytes absorbByte xorBytes
+  takes [] rest l n h e = absurd (not-suc-le-zero h)
+  takes (b ∷ []) rest l n h e = refl
+  takes (b ∷ b′ ∷ bs) rest l n h e =
+      let more : n + 1 + length (b′ ∷ bs) ≡ n + length (b ∷ b′ ∷ bs) = omega arith in
+      ap (λ (s : Sponge). absorbBytes rate s (b′ ∷ bs ++ rest)) (turn-more (xorByte l n b) (n + 1) (λ q. omega arith))
+      ∙ takes (b′ ∷ bs) rest (xorByte l n b) (n + 1) (omega arith) (omega arith)
+      ∙ ap (λ (k : ℕ). absorbBytes rate (turn rate (xorBytes (xorByte l n b) (n + 1) (b′ ∷ bs)) k) rest) more
+
+  pub word-law : (p l : List ℕ) (n i : ℕ) → n % 8 ≡ 0 → n + 8 ≤ rate → n / 8 < length l → i + 8 ≤ length p →
+      absorbBytes rate (sponge l n) (drop i p) ≡ absorbBytes rate (turn rate (set l (n / 8) (bitXor (at l (n / 8)) (wordAt p i))) (n + 8)) (drop (i + 8) p)
+  unfolding wordAt
+  word-law p l n i h r f g =
+      let len : length (take 8 (drop i p)) ≡ 8 = ap length (take-eight p i g) in
+      let whole : n ≡ 8 * (n / 8) = omega arith in
+      ap (absorbBytes rate (sponge l n)) (sym (take-append-drop 8 (drop i p)))
+      ∙ takes (take 8 (drop i p)) (drop 8 (drop i p)) l n (omega arith) (omega arith)
+      ∙ ap₂ (λ (k : ℕ) (d : List ℕ). absorbBytes rate (turn rate (xorBytes l n (take 8 (drop i p))) (n + k)) d) len (drop-drop 8 i p)
+      ∙ ap (λ (m : List ℕ). absorbBytes rate (turn rate m (n + 8)) (drop (i + 8) p))
+      (ap₂ (λ (k : ℕ) (bs : List ℕ). xorBytes l k bs) whole (take-eight p i g)
+      ∙ eight l (n / 8) f (at p i) (at p (i + 1)) (at p (i + 2)) (at p (i + 3)) (at p (i + 4)) (at p (i + 5)) (at p (i + 6)) (at p (i + 7)))
+
+  -- a message in two pieces is the message
+  pub absorb-append : (s : Sponge) (p q : List ℕ) → absorbBytes rate s (p ++ q) ≡ absorbBytes rate (absorbBytes rate s p) q
+  unfolding absorbBytes
+  absorb-append s [] q = refl
+  absorb-append s (b ∷ p) q = absorb-append (absorbByte rate s b) p q
+
+  -- a sponge has room at the start
+  pub start-fill : {s : Sponge} → s ≡ empty → Rate rate → s .fill < rate
+  unfolding empty
+  start-fill e R = subst (λ (s : Sponge). s .fill < rate) (sym e) (R .some)
+
+  turn-fill : (l : List ℕ) (n : ℕ) → 0 < rate → (n ≡ rate) ⊎ (n < rate) → turn rate l n .fill < rate
+  turn-fill l n h (inl e) = rw (turn-full l n e) h
+  turn-fill l n h (inr f) = rw (turn-more l n (λ e. omega arith)) f
+
+  -- the fill stays below the rate
+  pub absorb-fill : (s : Sponge) (p : List ℕ) → s .fill < rate → absorbBytes rate s p .fill < rate
+  unfolding absorbBytes absorbByte
+  absorb-fill s [] h = h
+  absorb-fill s (b ∷ p) h =
+      absorb-fill (absorbByte rate s b) p
+      (turn-fill (xorByte (s .lanes) (s .fill) b) (s .fill + 1) (omega arith) (eq-or-lt-of-le (omega arith)))

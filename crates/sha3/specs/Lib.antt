@@ -1,0 +1,3 @@
+pub mod Sha3
+pub mod Word
+pub mod Fips

@@ -1,0 +1,18 @@
+-- Eight bytes of a message as the code adds them to a lane.
+use mathlib.Core.List.{List}
+use Prim.Native.Nat.{ℕ, _+_, _*_, _^_}
+use lib.Bits.{bitXor}
+use Rattle.keccak.specs.Keccak.{at}
+
+-- the number that the eight bytes from i on make, the lowest first
+unfoldable pub wordAt : List ℕ → ℕ → ℕ
+wordAt p i =
+    bitXor
+    (bitXor
+    (bitXor
+    (bitXor
+    (bitXor (bitXor (bitXor (at p i) (at p (i + 1) * 2 ^ 8)) (at p (i + 2) * 2 ^ 16)) (at p (i + 3) * 2 ^ 24))
+    (at p (i + 4) * 2 ^ 32))
+    (at p (i + 5) * 2 ^ 40))
+    (at p (i + 6) * 2 ^ 48))
+    (at p (i + 7) * 2 ^ 56)

@@ -1,0 +1,115 @@
+// SHA3-224 and SHA3-256 of FIPS 202, section 6.1, and the sponge that they share, over the rate in bytes.
+ghost use mathlib.Core.Path.{_≡_};
+ghost use Prim.Native.Nat.{_+_, _≤_, _<_};
+ghost use lib.ListN.{length};
+ghost use Rattle.sha3.specs.Sha3.{Rate, xorByte, absorbBytes, empty, padded, squeeze, digest, sha3-224, sha3-256};
+ghost use Rattle.sha3.specs.Word.{wordAt};
+
+// A sponge: the state, and how many bytes of the block at hand were added to it.
+pub struct Sponge {
+    pub lanes: [u64; 25],
+    pub fill: usize,
+}
+
+// The eight bytes from `at` on, as a number, the lowest first.
+fn word(p: &[u8], at: usize) -> u64
+    requires { ⌜ at + 8 ≤ length (now p) ⌝ }
+    ensures { λ r. ⌜ r ≡ wordAt (now (p .entry)) at ⌝ }
+{
+    let b0 = p[at] as u64;
+    let b1 = p[at + 1] as u64;
+    let b2 = p[at + 2] as u64;
+    let b3 = p[at + 3] as u64;
+    let b4 = p[at + 4] as u64;
+    let b5 = p[at + 5] as u64;
+    let b6 = p[at + 6] as u64;
+    let b7 = p[at + 7] as u64;
+    b0 ^ (b1 << 8) ^ (b2 << 16) ^ (b3 << 24) ^ (b4 << 32) ^ (b5 << 40) ^ (b6 << 48) ^ (b7 << 56)
+}
+
+// b is added to byte n of the state.
+fn xor_byte(l: &mut [u64; 25], n: usize, b: u8)
+    requires { ⌜ n < 200 ⌝ }
+    ensures { λ _. ⌜ now (l .exit) ≡ xorByte (now (l .entry)) n b ⌝ }
+{
+    let k = n / 8;
+    l[k] = l[k] ^ ((b as u64) << (n % 8 * 8));
+}
+
+// More of the message. A lane that is due takes eight bytes at once.
+pub fn absorb(s: Sponge, rate: usize, p: &[u8]) -> Sponge
+    requires { ⌜ Rate rate × (s .fill < rate) ⌝ }
+    ensures { λ r. ⌜ (r ≡ absorbBytes rate s (now (p .entry))) × (r .fill < rate) ⌝ }
+{
+    let mut l = s.lanes;
+    let mut fill = s.fill;
+    let mut i: usize = 0;
+    while i < p.len() {
+        if fill % 8 == 0 && 8 <= p.len() - i {
+            let w = word(p, i);
+            let k = fill / 8;
+            l[k] = l[k] ^ w;
+            i += 8;
+            fill += 8;
+        } else {
+            xor_byte(&mut l, fill, p[i]);
+            i += 1;
+            fill += 1;
+        }
+        if fill == rate {
+            let u = keccak::permute(l);
+            l = u;
+            fill = 0;
+        }
+    }
+    Sponge { lanes: l, fill }
+}
+
+// The end of the message: suffix, pad and digest, which is as long as `out`.
+pub fn finish(s: Sponge, rate: usize, out: &mut [u8])
+    requires { ⌜ Rate rate × ((s .fill < rate) × (length (now out) ≤ rate)) ⌝ }
+    ensures { λ _. ⌜ now (out .exit) ≡ squeeze (padded rate s) (length (now (out .entry))) ⌝ }
+{
+    let mut l = s.lanes;
+    let fill = s.fill;
+    xor_byte(&mut l, fill, 6);
+    xor_byte(&mut l, rate - 1, 128);
+    let v = keccak::permute(l);
+    for i in 0..out.len() {
+        out[i] = ((v[i / 8] >> (i % 8 * 8)) & 255) as u8;
+    }
+}
+
+// The sponge before a message.
+pub fn start() -> Sponge
+    ensures { λ r. ⌜ r ≡ empty ⌝ }
+{
+    Sponge {
+        lanes: [0; 25],
+        fill: 0,
+    }
+}
+
+// The digest of m, as long as `out`.
+fn hash(rate: usize, m: &[u8], out: &mut [u8])
+    requires { ⌜ Rate rate × (length (now out) ≤ rate) ⌝ }
+    ensures { λ _. ⌜ now (out .exit) ≡ digest rate (length (now (out .entry))) (now (m .entry)) ⌝ }
+{
+    let s = start();
+    let t = absorb(s, rate, m);
+    finish(t, rate, out);
+}
+
+// SHA3-224 of m.
+pub fn sha3_224(m: &[u8], out: &mut [u8; 28])
+    ensures { λ _. ⌜ now (out .exit) ≡ sha3-224 (now (m .entry)) ⌝ }
+{
+    hash(144, m, out);
+}
+
+// SHA3-256 of m.
+pub fn sha3_256(m: &[u8], out: &mut [u8; 32])
+    ensures { λ _. ⌜ now (out .exit) ≡ sha3-256 (now (m .entry)) ⌝ }
+{
+    hash(136, m, out);
+}
