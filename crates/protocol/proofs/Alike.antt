@@ -1,0 +1,78 @@
+-- Records with the same bytes before the first dice, or before the second: what is read there is the same.
+use mathlib.Core.Path.{_≡_, sym, ap, _∙_}
+use mathlib.Core.List.{List}
+use Prim.Native.Nat.{ℕ, _+_, _*_, _≤_, _<_}
+use native.Mathlib.Omega.{arith}
+use lib.Arith.{digits-lt}
+use lib.ListN.{take}
+use lib.Seq.{take-take}
+use Rattle.laws.specs.Bytes.{number-same}
+use Rattle.laws.specs.Chunks.{piece-same}
+use Rattle.laws.specs.Masks.{setBefore}
+use Rattle.protocol.specs.declared.Parameters.{Parameters}
+use Rattle.protocol.specs.Layout.{lists, atBallot, atEntry, atFirstDice, atLink, atSecondDice}
+use Rattle.protocol.specs.Record.{parametersOf, idOf, ballotCommitmentOf, entryCommitmentOf, firstDiceOf, maskOf, linkPlace, positionOf, shiftOf}
+use Rattle.protocol.specs.Demand3.{beforeFirstDice}
+
+-- a shorter beginning
+take-less : (r s : List ℕ) (d e c : ℕ) → take d r ≡ take e s → c ≤ d → c ≤ e → take c r ≡ take c s
+take-less r s d e c h k l = sym (take-take c d r k) ∙ ap (take c) h ∙ take-take c e s l
+
+-- ---- the parameters
+
+parameters-same : (r s : List ℕ) → take 8 r ≡ take 8 s → parametersOf r ≡ parametersOf s
+unfolding parametersOf
+parameters-same r s e = rw (number-same r s 8 1 4 e (omega arith), number-same r s 8 5 2 e (omega arith), number-same r s 8 7 1 e (omega arith))
+
+first-low : (p : Parameters) → 8 ≤ atFirstDice p
+unfolding atFirstDice
+first-low p = omega arith
+
+pub parameters-alike : (r s : List ℕ) → beforeFirstDice r ≡ beforeFirstDice s → parametersOf r ≡ parametersOf s
+parameters-alike r s e =
+    parameters-same r s
+    (take-less r s (atFirstDice (parametersOf r)) (atFirstDice (parametersOf s)) 8 e (first-low (parametersOf r)) (first-low (parametersOf s)))
+
+-- ---- before the first dice
+
+module _ (p : Parameters) (r s : List ℕ) (e : take (atFirstDice p) r ≡ take (atFirstDice p) s) where
+  pub id-alike : (j : ℕ) → j < p .ballots → idOf p r j ≡ idOf p s j
+  unfolding idOf atBallot atFirstDice
+  id-alike j lj = number-same r s (atFirstDice p) (atBallot p j + 1) 4 e (omega arith)
+
+  pub ballot-alike : (j q : ℕ) → j < p .ballots → q < 6 → ballotCommitmentOf p r j q ≡ ballotCommitmentOf p s j q
+  unfolding ballotCommitmentOf atBallot atFirstDice
+  ballot-alike j q lj lq = piece-same r s (atFirstDice p) (atBallot p j + 5 + 32 * q) 32 e (omega arith)
+
+  pub entry-alike : (l i q : ℕ) → l < lists p → i < p .ballots → q < 6 → entryCommitmentOf p r l i q ≡ entryCommitmentOf p s l i q
+  unfolding entryCommitmentOf atEntry atFirstDice
+  entry-alike l i q ll li lq =
+      piece-same r s (atFirstDice p) (atEntry p l i + 4 + 32 * q) 32 e
+      (omega (arith, digits-lt {q = l} {m = lists p} {r = i} {c = p .ballots} ll li))
+
+-- ---- before the second dice
+
+module _ (p : Parameters) (r s : List ℕ) (e : take (atSecondDice p) r ≡ take (atSecondDice p) s) where
+  pub dice-alike : firstDiceOf p r ≡ firstDiceOf p s
+  unfolding firstDiceOf atSecondDice
+  dice-alike = piece-same r s (atSecondDice p) (atFirstDice p + 1) 30 e (omega arith)
+
+  pub mask-alike : maskOf p r ≡ maskOf p s
+  unfolding maskOf atSecondDice
+  mask-alike = number-same r s (atSecondDice p) (atFirstDice p + 31) 4 e (omega arith)
+
+  place-alike : (l j : ℕ) → linkPlace p r l j ≡ linkPlace p s l j
+  unfolding linkPlace
+  place-alike l j = rw mask-alike
+
+  place-in : (l j : ℕ) → setBefore (maskOf p s) l < p .compared → j < p .ballots → linkPlace p s l j + 10 ≤ atSecondDice p
+  unfolding linkPlace atLink atSecondDice
+  place-in l j lc lj = omega (arith, digits-lt {q = setBefore (maskOf p s) l} {m = p .compared} {r = j} {c = p .ballots} lc lj)
+
+  pub position-alike : (l j : ℕ) → setBefore (maskOf p s) l < p .compared → j < p .ballots → positionOf p r l j ≡ positionOf p s l j
+  unfolding positionOf
+  position-alike l j lc lj = rw (place-alike l j) (number-same r s (atSecondDice p) (linkPlace p s l j + 4) 2 e (omega (arith, place-in l j lc lj)))
+
+  pub shift-alike : (l j : ℕ) → setBefore (maskOf p s) l < p .compared → j < p .ballots → shiftOf p r l j ≡ shiftOf p s l j
+  unfolding shiftOf
+  shift-alike l j lc lj = rw (place-alike l j) (number-same r s (atSecondDice p) (linkPlace p s l j + 6) 4 e (omega (arith, place-in l j lc lj)))

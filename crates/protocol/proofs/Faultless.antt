@@ -1,0 +1,74 @@
+-- A record is accepted exactly if no command of it has a fault.
+use mathlib.Core.Path.{_≡_, refl, ap}
+use mathlib.Core.Logic.{_↔_, _≢_}
+use mathlib.Core.Bool.{Bool}
+use mathlib.Core.List.{List}
+use Prim.Native.Nat.{ℕ, zero, suc, _≤_, _<_}
+use native.Mathlib.Omega.{arith}
+use lib.ListN.{length}
+use Rattle.laws.specs.declared.Found.the-variants.{Nothing}
+use Rattle.laws.specs.Faults.{numberOf, rules, Numbered, numbered}
+use Rattle.laws.specs.Masks.{bit}
+use Rattle.protocol.specs.declared.Parameters.{Parameters}
+use Rattle.protocol.specs.declared.Due.the-variants.{First, Ballot, Entry, FirstDice, Link, SecondDice, BallotHalf, ListHalf, Vote, FullOpening, End}
+use Rattle.protocol.specs.declared.Verdict.the-variants.{Accepted}
+use Rattle.protocol.specs.Layout.{lists, recordLength}
+use Rattle.protocol.specs.Record.{parametersOf, maskOf}
+use Rattle.protocol.specs.Rules.{fault}
+use Rattle.protocol.specs.Judging.{found, ifCompared, ifOpened, ballotFaults, entryFaults, linkFaults, listHalfFaults, halfFaults, voteFaults, fullFaults, trailingFault, partOneFaults, partTwoFaults, partThreeFaults, firstFault, verdictOf, judged}
+
+-- no command has a fault, and no byte follows the last
+pub record Faultless (drawn : Bool) (p : Parameters) (r : List ℕ) : Type 0 where
+  pub first : fault p r drawn First ≡ 0
+  pub ballots : (j : ℕ) → j < p .ballots → fault p r drawn (Ballot j) ≡ 0
+  pub entries : (l : ℕ) → l < lists p → (i : ℕ) → i < p .ballots → fault p r drawn (Entry l i) ≡ 0
+  pub first-dice : fault p r drawn FirstDice ≡ 0
+  pub links : (l : ℕ) → l < lists p → bit (maskOf p r) l ≢ 0 → (j : ℕ) → j < p .ballots → fault p r drawn (Link l j) ≡ 0
+  pub second-dice : fault p r drawn SecondDice ≡ 0
+  pub halves : (j : ℕ) → j < p .ballots → (fault p r drawn (BallotHalf j) ≡ 0) × ((l : ℕ) → l < lists p → bit (maskOf p r) l ≢ 0 → fault p r drawn (ListHalf l j) ≡ 0)
+  pub votes : (i : ℕ) → i < p .ballots → fault p r drawn (Vote i) ≡ 0
+  pub full-openings : (l : ℕ) → l < lists p → bit (maskOf p r) l ≡ 0 → (i : ℕ) → i < p .ballots → fault p r drawn (FullOpening l i) ≡ 0
+  pub end : fault p r drawn End ≡ 0
+  pub trailing : length r ≤ recordLength p
+
+module _ (drawn : Bool) (r : List ℕ) where
+  pub faultless-iff : (firstFault drawn r ≡ Nothing) ↔ Faultless drawn (parametersOf r) r
+  unfolding firstFault partOneFaults partTwoFaults partThreeFaults ballotFaults entryFaults linkFaults listHalfFaults halfFaults voteFaults fullFaults trailingFault ifCompared ifOpened found
+  faultless-iff = (
+    λ e. let h = simp rules at e in record {
+      first = h .0;
+      ballots = h .1 .0 .0;
+      entries = h .1 .0 .1;
+      first-dice = h .1 .1 .0 .0;
+      links = h .1 .1 .0 .1;
+      second-dice = h .1 .1 .1 .0;
+      halves = h .1 .1 .1 .1 .0;
+      votes = h .1 .1 .1 .1 .1 .0;
+      full-openings = h .1 .1 .1 .1 .1 .1 .0;
+      end = h .1 .1 .1 .1 .1 .1 .1 .0;
+      trailing = h .1 .1 .1 .1 .1 .1 .1 .1 .0;
+    },
+    λ k. simp rules (
+      k .first,
+      ((k .ballots, k .entries), ((k .first-dice, k .links), (k .second-dice, (k .halves, (k .votes, (k .full-openings, (k .end, (k .trailing, refl)))))))),
+    ),
+  )
+
+  fault-numbered : Numbered (firstFault drawn r)
+  unfolding firstFault partOneFaults partTwoFaults partThreeFaults ballotFaults entryFaults linkFaults listHalfFaults halfFaults voteFaults fullFaults trailingFault ifCompared ifOpened found
+  fault-numbered = search numbered depth 12
+
+  verdict-accepted : (k : ℕ) → (verdictOf k ≡ Accepted) ↔ (k ≡ 0)
+  unfolding verdictOf
+  verdict-accepted zero = (λ e. refl, λ e. refl)
+  verdict-accepted (suc k) = (λ e. cc, λ e. absurd (omega arith))
+
+  pub accepted-nothing : (judged drawn r ≡ Accepted) ↔ (firstFault drawn r ≡ Nothing)
+  unfolding judged numberOf
+  accepted-nothing = (
+    λ e. fault-numbered .nothing (verdict-accepted (numberOf (firstFault drawn r)) .0 e),
+    λ e. verdict-accepted (numberOf (firstFault drawn r)) .1 (ap numberOf e),
+  )
+
+  pub accepted-iff : (judged drawn r ≡ Accepted) ↔ Faultless drawn (parametersOf r) r
+  accepted-iff = (λ e. faultless-iff .0 (accepted-nothing .0 e), λ k. accepted-nothing .1 (faultless-iff .1 k))

@@ -1,0 +1,158 @@
+-- What demand 3 supposes can be met: for all inputs that are not refused there are two masks and opposite sides that give three records
+-- as its first half wants them; and there are inputs that are not refused.
+use mathlib.Core.Path.{_≡_, refl, sym, ap, _∙_}
+use mathlib.Core.Logic.{_≢_}
+use mathlib.Core.Bool.{Bool, true, false}
+use mathlib.Core.List.{List, [], _∷_}
+use Prim.Native.Nat.{ℕ, zero, suc, _+_, _-_, _*_, _^_, _≤_, _<_}
+use native.Mathlib.Nat.{mul-le-mul-left, add-zero}
+use native.Mathlib.Omega.{arith}
+use lib.Count.{ones, ones-cat, ones-ones}
+use lib.ListN.{length, take, replicate, length-replicate, getD-replicate}
+use lib.Pow.{pow-mono, shl-lt, pow-pos}
+use Rattle.laws.specs.Bytes.{Below}
+use Rattle.laws.specs.Tests.{equal, differ, below, atMost, _and_, _or_, every}
+use Rattle.laws.specs.Faults.{rule}
+use Rattle.protocol.specs.declared.Parameters.{Parameters}
+use Rattle.protocol.specs.declared.Verdict.the-variants.{Accepted}
+use Rattle.protocol.specs.Terms.{item, inLimits, modulusInLimits, ballotsInLimits, listsInLimits, allBelow}
+use Rattle.protocol.specs.Columns.{isPermutation}
+use Rattle.protocol.specs.Layout.{atFirstDice, atSecondDice}
+use Rattle.protocol.specs.Record.{Board, Comparison, Disclosure, parametersOf, maskOf, sideOf, encoding}
+use Rattle.protocol.specs.Rules.{fairDie, fairDice}
+use Rattle.protocol.specs.Judging.{judged}
+use Rattle.protocol.specs.Inputs.{Slices, inputsOf, binarySides, listPermutations, dueLengths, idsRise, allPermutations, refusal, partOneRefusal}
+use Rattle.protocol.specs.Servers.{postedBoard, postedComparison, postedDisclosure}
+use Rattle.protocol.specs.Demand3.{beforeFirstDice, beforeSecondDice, Triple}
+use Rattle.protocol.proofs.Fitting.{Fits}
+use Rattle.protocol.proofs.Goodness.{Good}
+use Rattle.protocol.proofs.Unrefused.{unrefused, good-inputs, shape-iff, binary-iff}
+use Rattle.protocol.proofs.Reading.{read-parameters, read-mask, read-side}
+use Rattle.protocol.proofs.Standing.{read-before-first-dice, read-before-second-dice}
+use Rattle.protocol.proofs.Completeness.{Taken, written, board, comparison, disclosure, is-encoding, fits, written-accepted}
+
+-- ---- three records of one board, two comparisons and opposite sides
+
+met : (b : Board) (k k₃ : Comparison) (d₁ d₂ d₃ : Disclosure) → Fits b k d₁ → Fits b k d₂ → Fits b k₃ d₃
+    → judged false (encoding b k d₁) ≡ Accepted → judged false (encoding b k d₂) ≡ Accepted → judged false (encoding b k₃ d₃) ≡ Accepted
+    → ((j : ℕ) → j < b .parameters .ballots → d₁ .side j ≢ d₂ .side j) → k .mask ≢ k₃ .mask
+    → Triple (encoding b k d₁) (encoding b k d₂) (encoding b k₃ d₃)
+met b k k₃ d₁ d₂ d₃ f₁ f₂ f₃ a₁ a₂ a₃ sides masks = record {
+  accepted₁ = a₁;
+  accepted₂ = a₂;
+  accepted₃ = a₃;
+  alike₂ = read-before-first-dice b k d₁ f₁ ∙ sym (read-before-first-dice b k d₂ f₂);
+  alike₃ = read-before-first-dice b k d₁ f₁ ∙ sym (read-before-first-dice b k₃ d₃ f₃);
+  pair = read-before-second-dice b k d₁ f₁ ∙ sym (read-before-second-dice b k d₂ f₂);
+  sides = rw (read-parameters b k d₁ f₁, read-parameters b k d₂ f₂) (λ j lj. rw (read-side b k d₁ f₁ j lj, read-side b k d₂ f₂ j lj) (sides j lj));
+  masks = rw (read-parameters b k d₁ f₁, read-parameters b k₃ d₃ f₃, read-mask b k d₁ f₁, read-mask b k₃ d₃ f₃) masks;
+}
+
+-- ---- two masks
+
+-- m of 2m lists, and the m others
+abbrev pub lowMask : ℕ → ℕ
+lowMask m = 2 ^ m - 1
+
+abbrev pub highMask : ℕ → ℕ
+highMask m = (2 ^ m - 1) * 2 ^ m
+
+-- the shape that a mask must have
+pub record Shaped (m mask : ℕ) : Type 0 where
+  pub mask-ones : ones mask ≡ m
+  pub mask-below : mask < 2 ^ (2 * m)
+
+pub low-shaped : (m : ℕ) → Shaped m (lowMask m)
+low-shaped m = record {
+  mask-ones = ones-ones m;
+  mask-below = omega (arith, pow-mono {i = m} {j = 2 * m} (omega arith), pow-pos m);
+}
+
+pub high-shaped : (m : ℕ) → Shaped m (highMask m)
+unfolding ones
+high-shaped m = record {
+  mask-ones = ap ones (sym (add-zero (highMask m))) ∙ ones-cat m (lowMask m) 0 (pow-pos m) ∙ omega (arith, ones-ones m);
+  mask-below = let e : 2 * m ≡ m + m = omega arith in rw e (shl-lt m m (omega (arith, pow-pos m)));
+}
+
+pub masks-differ : (m : ℕ) → 1 ≤ m → lowMask m ≢ highMask m
+masks-differ m l e =
+    let two : 2 ≤ 2 ^ m = pow-mono {i = 1} {j = m} l in
+    omega (arith, mul-le-mul-left (lowMask m) two)
+
+-- ---- inputs that are not refused
+
+-- thirty times the character '1'
+ones30 : List ℕ
+ones30 = replicate 30 49
+
+module _ (s : Slices) (outLong : ℕ) (ids : Below 4294967296 (s .ids)) (h : partOneRefusal s outLong ≡ 0) where
+  good : Good (inputsOf s)
+  unfolding partOneRefusal
+  good = good-inputs s (unrefused s _ _ _ _ h) ids
+
+  same-sides : ℕ → List ℕ
+  same-sides b = replicate (s .ballots) b
+
+  taken : (mask b : ℕ) → Shaped (s .compared) mask → b ≤ 1 → Taken s ones30 mask ones30 (same-sides b)
+  unfolding ones30 same-sides fairDice fairDie every atMost _and_
+  taken mask b m l = record {
+    first-long = refl;
+    first-fair = refl;
+    second-long = refl;
+    second-fair = refl;
+    shape = shape-iff (s .compared) mask .1 (m .mask-ones, m .mask-below);
+    binary = binary-iff s (replicate (s .ballots) b) .1 (λ j lj. rw (getD-replicate (s .ballots) j b 0 lj) l);
+  }
+
+  low : (b : ℕ) → b ≤ 1 → Taken s ones30 (lowMask (s .compared)) ones30 (same-sides b)
+  low b l = taken (lowMask (s .compared)) b (low-shaped (s .compared)) l
+
+  high : (b : ℕ) → b ≤ 1 → Taken s ones30 (highMask (s .compared)) ones30 (same-sides b)
+  high b l = taken (highMask (s .compared)) b (high-shaped (s .compared)) l
+
+  -- the record with a mask, on one side throughout
+  abbrev pub sample : ℕ → ℕ → List ℕ
+  sample mask b = written s (replicate 30 49) mask (replicate 30 49) (replicate (s .ballots) b)
+
+  pub triple : Triple (sample (lowMask (s .compared)) 0) (sample (lowMask (s .compared)) 1) (sample (highMask (s .compared)) 0)
+  unfolding ones30 same-sides board comparison disclosure postedBoard postedComparison postedDisclosure partOneRefusal inputsOf
+  triple =
+      let M = lowMask (s .compared) in
+      let N = highMask (s .compared) in
+      let t₁ = low 0 (omega arith) in
+      let t₂ = low 1 (omega arith) in
+      let t₃ = high 0 (omega arith) in
+      let e₁ = is-encoding s good ones30 M ones30 (same-sides 0) t₁ in
+      let e₂ = is-encoding s good ones30 M ones30 (same-sides 1) t₂ in
+      let e₃ = is-encoding s good ones30 N ones30 (same-sides 0) t₃ in
+      let a₁ = written-accepted s good ones30 M ones30 (same-sides 0) t₁ in
+      let a₂ = written-accepted s good ones30 M ones30 (same-sides 1) t₂ in
+      let a₃ = written-accepted s good ones30 N ones30 (same-sides 0) t₃ in
+      rw (e₁, e₂, e₃)
+      (met _ _ _ _ _ _
+      (fits s good ones30 M ones30 (same-sides 0) t₁) (fits s good ones30 M ones30 (same-sides 1) t₂) (fits s good ones30 N ones30 (same-sides 0) t₃)
+      (rw e₁ at a₁) (rw e₂ at a₂) (rw e₃ at a₃)
+      (λ j lj e. opposite (sym (getD-replicate (s .ballots) j 0 0 lj) ∙ e ∙ getD-replicate (s .ballots) j 1 0 lj))
+      (masks-differ (s .compared) (unrefused s _ _ _ _ h .compared-low)))
+    where
+      opposite : _≡_ {A = ℕ} 0 1 → ⊥
+      opposite e = omega arith
+
+-- the smallest election: one ballot, two lists, M = 2, every number 1
+pub tiny : Slices
+tiny =
+    record {
+      modulus = 2;
+      ballots = 1;
+      compared = 1;
+      ids = 7 ∷ [];
+      votes = 1 ∷ [];
+      numbers = replicate 23 1;
+      permutations = replicate 6 0;
+      keys = replicate 576 5;
+    }
+
+pub tiny-unrefused : refusal tiny true true true true ≡ 0
+unfolding tiny refusal inLimits modulusInLimits ballotsInLimits listsInLimits dueLengths idsRise allBelow allPermutations isPermutation inputsOf listPermutations rule equal differ below atMost _and_ _or_ every
+tiny-unrefused = refl

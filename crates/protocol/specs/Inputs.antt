@@ -1,0 +1,158 @@
+-- Document 01, "Servers' writing": what the servers are given, and what they refuse.
+use mathlib.Core.Bool.{Bool, true}
+use mathlib.Core.List.{List}
+use Prim.Native.Nat.{ℕ, zero, suc, _+_, _-_, _*_}
+use lib.ListN.{length}
+use Rattle.laws.specs.Tests.{equal, below, atMost, _and_, _or_, every}
+use Rattle.laws.specs.Faults.{rule, kept}
+use Rattle.laws.specs.Chunks.{piece}
+use Rattle.protocol.specs.declared.Parameters.{Parameters}
+use Rattle.protocol.specs.declared.Written.{Written}
+use Rattle.protocol.specs.declared.Written.the-variants.{Done, Refused}
+use Rattle.protocol.specs.Terms.{item, allBelow, inLimits}
+use Rattle.protocol.specs.Columns.{isPermutation}
+use Rattle.protocol.specs.Layout.{lists, partOneLength, partTwoLength, partThreeLength}
+use Rattle.protocol.specs.Rules.{fairDice, rightShape}
+
+-- "Inputs of every part": as the servers are handed them, in slices
+pub record Slices : Type 0 where
+  pub modulus : ℕ
+  pub ballots : ℕ
+  pub compared : ℕ
+  pub ids : List ℕ
+  pub votes : List ℕ
+  pub numbers : List ℕ
+  pub permutations : List ℕ
+  pub keys : List ℕ
+
+-- the slices as an entry is lent them
+abbrev pub given : ℕ → ℕ → ℕ → List ℕ → List ℕ → List ℕ → List ℕ → List ℕ → Slices
+given modulus ballots compared ids votes numbers permutations keys =
+    record { modulus = modulus; ballots = ballots; compared = compared; ids = ids; votes = votes; numbers = numbers; permutations = permutations; keys = keys }
+
+abbrev pub parametersFor : Slices → Parameters
+parametersFor s = record { modulus = s .modulus; ballots = s .ballots; compared = s .compared }
+
+-- ---- one by one
+
+-- the same, by ballot, list, column, row, position and slot
+pub record Inputs : Type 0 where
+  pub parameters : Parameters
+  pub id : ℕ → ℕ
+  pub vote : ℕ → ℕ
+  pub x : ℕ → ℕ
+  pub y : ℕ → ℕ
+  pub firstHalf : ℕ → ℕ → ℕ
+  pub offset : ℕ → ℕ → ℕ → ℕ → ℕ
+  pub entryFirstHalf : ℕ → ℕ → ℕ → ℕ
+  pub permutation : ℕ → ℕ → ℕ → ℕ
+  pub ballotKey : ℕ → ℕ → List ℕ
+  pub entryKey : ℕ → ℕ → ℕ → List ℕ
+
+module _ (s : Slices) where
+  -- "numbers, per ballot x, y, u1, u2, u3"
+  unfoldable pub ballotNumbers : ℕ → List ℕ
+  ballotNumbers j = piece (s .numbers) (5 * j) 5
+
+  -- "then per list three columns of n offset pairs (rows one and two, in that column's incoming order) and n triples of first halves
+  -- (by list position)"
+  unfoldable pub listNumbers : ℕ → List ℕ
+  listNumbers l = piece (s .numbers) (5 * s .ballots + l * (9 * s .ballots)) (9 * s .ballots)
+
+  -- "permutations, three per list"
+  unfoldable pub listPermutations : ℕ → List ℕ
+  listPermutations l = piece (s .permutations) (l * (3 * s .ballots)) (3 * s .ballots)
+
+  -- "keys, 192 bytes per ballot, then per list and position"
+  unfoldable pub ballotKeys : ℕ → List ℕ
+  ballotKeys j = piece (s .keys) (192 * j) 192
+
+  unfoldable pub entryKeys : ℕ → ℕ → List ℕ
+  entryKeys l i = piece (s .keys) (192 * s .ballots + 192 * (l * s .ballots + i)) 192
+
+  unfoldable pub inputsOf : Inputs
+  inputsOf =
+      record {
+        parameters = parametersFor s;
+        id = item (s .ids);
+        vote = item (s .votes);
+        x = λ j. item (ballotNumbers j) 0;
+        y = λ j. item (ballotNumbers j) 1;
+        firstHalf = λ j k. item (ballotNumbers j) (2 + k);
+        offset = λ l column row i. item (listNumbers l) (column * (2 * s .ballots) + (2 * i + row));
+        entryFirstHalf = λ l i k. item (listNumbers l) (6 * s .ballots + (3 * i + k));
+        permutation = λ l column i. item (listPermutations l) (column * s .ballots + i);
+        ballotKey = λ j q. piece (ballotKeys j) (32 * q) 32;
+        entryKey = λ l i q. piece (entryKeys l i) (32 * q) 32;
+      }
+
+  -- ---- refusals: "Writers test 3, then 18, then the rest in rising number, each over the whole input."
+
+  -- "Every slice has exactly its due length."
+  unfoldable pub dueLengths : Bool
+  dueLengths =
+      let n = s .ballots in
+      let mn = s .compared * s .ballots in
+      equal (length (s .ids)) n
+      and equal (length (s .votes)) n
+      and equal (length (s .numbers)) (5 * n + 18 * mn)
+      and equal (length (s .permutations)) (6 * mn)
+      and equal (length (s .keys)) (192 * n + 384 * mn)
+
+  -- 5, "an id not above the one before"
+  unfoldable pub idsRise : Bool
+  idsRise = every (λ j. equal j 0 or below (item (s .ids) (j - 1)) (item (s .ids) j)) (s .ballots)
+
+  -- 19, "a permutation that is none"
+  unfoldable pub allPermutations : Bool
+  allPermutations = every (λ l. every (λ c. isPermutation (s .ballots) (inputsOf .permutation l c)) 3) (lists (parametersFor s))
+
+  -- the tests of every part; those of its other slices, dice, mask and sides are a part's own
+  unfoldable pub refusal : Bool → Bool → Bool → Bool → ℕ
+  refusal lengths fair shape binary =
+      rule 3 (inLimits (s .modulus) (s .ballots) (s .compared))
+      (rule 18 (dueLengths and lengths)
+      (rule 5 idsRise
+      (rule 6 fair
+      (rule 7 shape (rule 10 (allBelow (s .modulus) (s .votes) and allBelow (s .modulus) (s .numbers)) (rule 11 binary (rule 19 allPermutations kept)))))))
+
+  -- part one into a buffer
+  unfoldable pub partOneRefusal : ℕ → ℕ
+  partOneRefusal outLong = refusal (equal outLong (partOneLength (parametersFor s))) true true true
+
+  -- part two, mask given
+  unfoldable pub partTwoRefusal : List ℕ → ℕ → ℕ → ℕ
+  partTwoRefusal dice mask outLong =
+      refusal (equal (length dice) 30 and equal outLong (partTwoLength (parametersFor s))) (fairDice dice) (rightShape (s .compared) mask) true
+
+  -- part two, mask drawn from the dice and part one as lent
+  unfoldable pub partTwoDrawnRefusal : List ℕ → ℕ → ℕ → ℕ
+  partTwoDrawnRefusal dice oneLong outLong =
+      refusal (equal (length dice) 30 and equal oneLong (partOneLength (parametersFor s)) and equal outLong (partTwoLength (parametersFor s))) (fairDice dice) true true
+
+  -- part three, sides given: 11, "side byte above 1"
+  unfoldable pub binarySides : List ℕ → Bool
+  binarySides sides = every (λ j. atMost (item sides j) 1) (s .ballots)
+
+  unfoldable pub partThreeRefusal : List ℕ → ℕ → List ℕ → ℕ → ℕ
+  partThreeRefusal dice mask sides outLong =
+      refusal (equal (length dice) 30 and equal (length sides) (s .ballots) and equal outLong (partThreeLength (parametersFor s)))
+      (fairDice dice) (rightShape (s .compared) mask) (binarySides sides)
+
+  -- part three, sides drawn from the dice and parts one and two as lent
+  unfoldable pub partThreeDrawnRefusal : List ℕ → ℕ → ℕ → ℕ → ℕ → ℕ
+  partThreeDrawnRefusal dice mask oneLong twoLong outLong =
+      refusal
+      (equal (length dice) 30 and equal oneLong (partOneLength (parametersFor s)) and equal twoLong (partTwoLength (parametersFor s))
+      and equal outLong (partThreeLength (parametersFor s)))
+      (fairDice dice) (rightShape (s .compared) mask) true
+
+-- the answer that a number is
+unfoldable pub writtenOf : ℕ → Written
+writtenOf zero = Done
+writtenOf (suc k) = Refused (suc k)
+
+-- "A refusal yields its number and nothing else, and no lent byte changes.": what an output holds at return
+unfoldable pub afterwards : ℕ → List ℕ → List ℕ → List ℕ
+afterwards zero before written = written
+afterwards (suc k) before written = before

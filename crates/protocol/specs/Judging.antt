@@ -1,0 +1,83 @@
+-- Document 01, "What is refused": "The judge goes command by command; the first faulty one decides."
+use mathlib.Core.Bool.{Bool, true, false}
+use mathlib.Core.List.{List}
+use Prim.Native.Nat.{ℕ, zero, suc, _+_, _*_}
+use lib.ListN.{length}
+use Rattle.laws.specs.declared.Found.{Found}
+use Rattle.laws.specs.declared.Found.the-variants.{Nothing, Fault}
+use Rattle.laws.specs.Tests.{atMost, choose}
+use Rattle.laws.specs.Faults.{rule, kept, located, _then_, first, numberOf}
+use Rattle.laws.specs.Masks.{bit}
+use Rattle.protocol.specs.declared.Parameters.{Parameters}
+use Rattle.protocol.specs.declared.Due.{Due}
+use Rattle.protocol.specs.declared.Due.the-variants.{First, Ballot, Entry, FirstDice, Link, SecondDice, BallotHalf, ListHalf, Vote, FullOpening, End}
+use Rattle.protocol.specs.declared.Verdict.{Verdict}
+use Rattle.protocol.specs.declared.Verdict.the-variants.{Accepted, Refused}
+use Rattle.protocol.specs.Layout.{lists, atEnd, recordLength}
+use Rattle.protocol.specs.Record.{parametersOf, maskOf}
+use Rattle.protocol.specs.Rules.{placeOf, fault}
+
+module _ (p : Parameters) (r : List ℕ) where
+  -- for every compared list, and for every uncompared one
+  unfoldable pub ifCompared : ℕ → Found → Found
+  ifCompared l f = choose (bit (maskOf p r) l) Nothing f
+
+  unfoldable pub ifOpened : ℕ → Found → Found
+  ifOpened l f = choose (bit (maskOf p r) l) f Nothing
+
+  -- rule 17: "bytes after 0B"
+  unfoldable pub trailingFault : Found
+  trailingFault = located (recordLength p) (rule 17 (atMost (length r) (recordLength p)) kept)
+
+module _ (drawn : Bool) (p : Parameters) (r : List ℕ) where
+  -- a faulty command's number, with the place where it starts
+  unfoldable pub found : Due → Found
+  found d = located (placeOf p r d) (fault p r drawn d)
+
+  -- "They come in this order."
+  unfoldable pub ballotFaults : ℕ → Found
+  ballotFaults n = first (λ j. found (Ballot j)) n
+
+  unfoldable pub entryFaults : ℕ → Found
+  entryFaults l = first (λ i. found (Entry l i)) (p .ballots)
+
+  unfoldable pub linkFaults : ℕ → Found
+  linkFaults l = first (λ j. found (Link l j)) (p .ballots)
+
+  unfoldable pub listHalfFaults : ℕ → Found
+  listHalfFaults j = first (λ l. ifCompared p r l (found (ListHalf l j))) (lists p)
+
+  unfoldable pub halfFaults : ℕ → Found
+  halfFaults j = found (BallotHalf j) then listHalfFaults j
+
+  unfoldable pub voteFaults : ℕ → Found
+  voteFaults n = first (λ i. found (Vote i)) n
+
+  unfoldable pub fullFaults : ℕ → Found
+  fullFaults l = first (λ i. found (FullOpening l i)) (p .ballots)
+
+  unfoldable pub partOneFaults : Found
+  partOneFaults = ballotFaults (p .ballots) then first entryFaults (lists p)
+
+  unfoldable pub partTwoFaults : Found
+  partTwoFaults = found FirstDice then first (λ l. ifCompared p r l (linkFaults l)) (lists p)
+
+  unfoldable pub partThreeFaults : Found
+  partThreeFaults =
+      found SecondDice
+      then (first halfFaults (p .ballots)
+      then (voteFaults (p .ballots) then (first (λ l. ifOpened p r l (fullFaults l)) (lists p) then (found End then trailingFault p r))))
+
+-- the first fault of a record: "Plain judging takes mask and sides as posted. Drawn judging also demands that they be the drawn ones."
+unfoldable pub firstFault : Bool → List ℕ → Found
+firstFault drawn r =
+    let p = parametersOf r in
+    found drawn p r First then (partOneFaults drawn p r then (partTwoFaults drawn p r then partThreeFaults drawn p r))
+
+-- the verdict that a number is: none broken is accepted
+unfoldable pub verdictOf : ℕ → Verdict
+verdictOf zero = Accepted
+verdictOf (suc k) = Refused (suc k)
+
+unfoldable pub judged : Bool → List ℕ → Verdict
+judged drawn r = verdictOf (numberOf (firstFault drawn r))

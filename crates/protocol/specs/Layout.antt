@@ -1,0 +1,93 @@
+-- Document 01, "The record": each command's byte, width and place. Places follow from the parameters and, for the lists that are
+-- compared or opened, from how many such lists come before.
+use Prim.Native.Nat.{ℕ, _+_, _*_, _-_}
+use Rattle.protocol.specs.declared.Parameters.{Parameters}
+use Rattle.protocol.specs.declared.Due.{Due}
+use Rattle.protocol.specs.declared.Due.the-variants.{First, Ballot, Entry, FirstDice, Link, SecondDice, BallotHalf, ListHalf, Vote, FullOpening, End}
+
+-- "A command is one byte with operands of fixed widths."
+abbrev pub code : Due → ℕ
+code First = 0x01
+code (Ballot j) = 0x02
+code (Entry l i) = 0x03
+code FirstDice = 0x04
+code (Link l j) = 0x05
+code SecondDice = 0x06
+code (BallotHalf j) = 0x07
+code (ListHalf l j) = 0x08
+code (Vote i) = 0x09
+code (FullOpening l i) = 0x0A
+code End = 0x0B
+
+-- the command byte and its operands
+abbrev pub width : Due → ℕ
+width First = 8
+width (Ballot j) = 197
+width (Entry l i) = 196
+width FirstDice = 35
+width (Link l j) = 10
+width SecondDice = 31
+width (BallotHalf j) = 112
+width (ListHalf l j) = 112
+width (Vote i) = 7
+width (FullOpening l i) = 220
+width End = 1
+
+module _ (p : Parameters) where
+  -- "There are 2m lists"
+  abbrev pub lists : ℕ
+  lists = 2 * p .compared
+
+  -- the width of the first command
+  abbrev pub firstWidth : ℕ
+  firstWidth = 8
+
+  -- "02 ballot, n times"
+  unfoldable pub atBallot : ℕ → ℕ
+  atBallot j = firstWidth + 197 * j
+
+  -- "03 list entry, lists then positions rising"
+  unfoldable pub atEntry : ℕ → ℕ → ℕ
+  atEntry l i = firstWidth + 197 * p .ballots + 196 * (l * p .ballots + i)
+
+  unfoldable pub atFirstDice : ℕ
+  atFirstDice = firstWidth + 197 * p .ballots + 196 * (lists * p .ballots)
+
+  -- "05 link, compared lists rising, ballots rising in each"; c compared lists come before
+  unfoldable pub atLink : ℕ → ℕ → ℕ
+  atLink c j = atFirstDice + 35 + 10 * (c * p .ballots + j)
+
+  unfoldable pub atSecondDice : ℕ
+  atSecondDice = atFirstDice + 35 + 10 * (p .compared * p .ballots)
+
+  -- "07 ballot half, ballots rising"
+  unfoldable pub atBallotHalf : ℕ → ℕ
+  atBallotHalf j = atSecondDice + 31 + 112 * (j * (p .compared + 1))
+
+  -- "After each 07 there is for every compared list, rising, one 08"; c compared lists come before
+  unfoldable pub atListHalf : ℕ → ℕ → ℕ
+  atListHalf j c = atBallotHalf j + 112 + 112 * c
+
+  -- "09 announced vote, n times"
+  unfoldable pub atVote : ℕ → ℕ
+  atVote i = atBallotHalf (p .ballots) + 7 * i
+
+  -- "0A full opening, uncompared lists then positions rising"; c uncompared lists come before
+  unfoldable pub atFullOpening : ℕ → ℕ → ℕ
+  atFullOpening c i = atVote (p .ballots) + 220 * (c * p .ballots + i)
+
+  unfoldable pub atEnd : ℕ
+  atEnd = atVote (p .ballots) + 220 * (p .compared * p .ballots)
+
+  -- the whole record, and the servers' three parts: 01 to 03; 04 and 05; 06 to 0B
+  abbrev pub recordLength : ℕ
+  recordLength = atEnd + 1
+
+  abbrev pub partOneLength : ℕ
+  partOneLength = atFirstDice
+
+  abbrev pub partTwoLength : ℕ
+  partTwoLength = 35 + 10 * (p .compared * p .ballots)
+
+  unfoldable pub partThreeLength : ℕ
+  partThreeLength = 32 + 119 * p .ballots + 332 * (p .compared * p .ballots)

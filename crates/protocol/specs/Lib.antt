@@ -1,0 +1,15 @@
+pub mod Terms
+pub mod Tablet
+pub mod Columns
+pub mod Layout
+pub mod Record
+pub mod Drawing
+pub mod Rules
+pub mod Judging
+pub mod Inputs
+pub mod Servers
+pub mod Results
+pub mod Stands
+pub mod Demand3
+pub mod Election
+pub mod Broken

@@ -1,0 +1,148 @@
+-- Document 01, "What is refused": the rules of each command, in rising order. A rule reads its operands, and those of earlier
+-- commands, from the record.
+use mathlib.Core.Bool.{Bool}
+use mathlib.Core.List.{List}
+use Prim.Native.Nat.{ℕ, zero, suc, _+_, _-_, _*_, _^_}
+use lib.Count.{ones}
+use lib.ListN.{length, take}
+use Rattle.laws.specs.Tests.{equal, differ, below, atMost, _and_, _or_, _implies_, every, same}
+use Rattle.laws.specs.Faults.{rule, kept}
+use Rattle.laws.specs.Bytes.{number}
+use Rattle.laws.specs.Modular.{plus, minus}
+use Rattle.laws.specs.Permuting.{permutes}
+use Rattle.protocol.specs.declared.Parameters.{Parameters}
+use Rattle.protocol.specs.declared.Due.{Due}
+use Rattle.protocol.specs.declared.Due.the-variants.{First, Ballot, Entry, FirstDice, Link, SecondDice, BallotHalf, ListHalf, Vote, FullOpening, End}
+use Rattle.protocol.specs.Terms.{item, inLimits, opened, Place, inBallot, inEntry, commitment, sumOfThree, sumOfSix}
+use Rattle.protocol.specs.Layout.{code, width, atBallot, atEntry, atFirstDice, atSecondDice, atBallotHalf, atVote, atEnd}
+use Rattle.protocol.specs.Record.{idOf, ballotCommitmentOf, entryCommitmentOf, firstDiceOf, maskOf, linkPlace, positionOf, shiftOf, secondDiceOf, sideOf, ballotOpeningOf, listHalfPlace, listOpeningOf, voteOf, fullPlace, fullOpeningOf}
+use Rattle.protocol.specs.Drawing.{challenge, drawnMask, drawnSide}
+
+-- ---- tests of numbers, for judge and writers alike
+
+-- rule 6: "a dice byte outside '1' to '6'", characters 49 to 54
+unfoldable pub fairDie : ℕ → Bool
+fairDie c = atMost 49 c and atMost c 54
+
+unfoldable pub fairDice : List ℕ → Bool
+fairDice dice = every (λ i. fairDie (item dice i)) 30
+
+-- rule 7: "the mask has exactly m ones and no bit at 2m or above"
+unfoldable pub rightShape : ℕ → ℕ → Bool
+rightShape m mask = equal (ones mask) m and below mask (2 ^ (2 * m))
+
+-- rule 10: the numbers in k openings are below M
+unfoldable pub numbersBelow : ℕ → (ℕ → List ℕ) → ℕ → Bool
+numbersBelow M openings k = every (λ i. below (opened (openings i)) M) k
+
+-- rule 13: an opening gives the commitment posted at a place
+unfoldable pub gives : Place → List ℕ → List ℕ → Bool
+gives place o posted = same (commitment place o) posted
+
+-- rule 14: "the ballot's three opened numbers must equal in sum: on side 0 the list's three plus t, on side 1 the list's three
+-- minus t"
+unfoldable pub agrees : ℕ → ℕ → ℕ → ℕ → ℕ → Bool
+agrees M zero ballot list t = equal ballot (plus M list t)
+agrees M (suc side) ballot list t = equal ballot (minus M list t)
+
+-- ---- the rules of a whole command; `drawn` is the switch between plain and drawn judging
+
+-- 01: 3
+unfoldable pub firstRules : List ℕ → ℕ
+firstRules r = rule 3 (inLimits (number r 1 4) (number r 5 2) (number r 7 1)) kept
+
+module _ (p : Parameters) (r : List ℕ) where
+  -- 02: 5, "an id not above the one before"
+  unfoldable pub ballotRules : ℕ → ℕ
+  ballotRules j = rule 5 (equal j 0 or below (idOf p r (j - 1)) (idOf p r j)) kept
+
+  -- 03: 4, "a list, ballot, position or index operand other than the due one"
+  unfoldable pub entryRules : ℕ → ℕ → ℕ
+  entryRules l i = rule 4 (equal (number r (atEntry p l i + 1) 1) l) (rule 4 (equal (number r (atEntry p l i + 2) 2) i) kept)
+
+  -- 04: 6, 7, and 8, "mask not the drawn one", only as drawn
+  unfoldable pub firstDiceRules : Bool → ℕ
+  firstDiceRules drawn =
+      rule 6 (fairDice (firstDiceOf p r))
+      (rule 7 (rightShape (p .compared) (maskOf p r))
+      (rule 8 (drawn implies equal (maskOf p r) (drawnMask (p .compared) (challenge (firstDiceOf p r) (take (atFirstDice p) r)))) kept))
+
+  -- 05: 4 "(in a link, list and ballot only)"; 9, "link position n or above, or taken"; 10
+  unfoldable pub linkRules : ℕ → ℕ → ℕ
+  linkRules l j =
+      rule 4 (equal (number r (linkPlace p r l j + 1) 1) l)
+      (rule 4 (equal (number r (linkPlace p r l j + 2) 2) j)
+      (rule 9 (below (positionOf p r l j) (p .ballots))
+      (rule 9 (every (λ i. differ (positionOf p r l i) (positionOf p r l j)) j) (rule 10 (below (shiftOf p r l j) (p .modulus)) kept))))
+
+  -- 06: 6
+  unfoldable pub secondDiceRules : ℕ
+  secondDiceRules = rule 6 (fairDice (secondDiceOf p r)) kept
+
+  -- 07: 4; 10; 11, "side byte above 1"; 12, "side not the drawn one", only as drawn; 13. "Side 0 opens u1, u2, u3 and side 1 opens
+  -- v1, v2, v3": slots 0, 2, 4 and 1, 3, 5
+  unfoldable pub ballotHalfRules : Bool → ℕ → ℕ
+  ballotHalfRules drawn j =
+      rule 4 (equal (number r (atBallotHalf p j + 1) 2) j)
+      (rule 10 (numbersBelow (p .modulus) (ballotOpeningOf p r j) 3)
+      (rule 11 (atMost (sideOf p r j) 1)
+      (rule 12 (drawn implies equal (sideOf p r j) (drawnSide (challenge (secondDiceOf p r) (take (atSecondDice p) r)) j))
+      (rule 13 (every (λ k. gives (inBallot (idOf p r j) (2 * k + sideOf p r j)) (ballotOpeningOf p r j k) (ballotCommitmentOf p r j (2 * k + sideOf p r j))) 3) kept))))
+
+  -- 08: 4, the position being "the linked one"; 10; 13, "of the same side"; 14
+  unfoldable pub listHalfRules : ℕ → ℕ → ℕ
+  listHalfRules l j =
+      rule 4 (equal (number r (listHalfPlace p r l j + 1) 1) l)
+      (rule 4 (equal (number r (listHalfPlace p r l j + 2) 2) (positionOf p r l j))
+      (rule 10 (numbersBelow (p .modulus) (listOpeningOf p r l j) 3)
+      (rule 13 (every (λ k. gives (inEntry l (positionOf p r l j) (2 * k + sideOf p r j)) (listOpeningOf p r l j k) (entryCommitmentOf p r l (positionOf p r l j) (2 * k + sideOf p r j))) 3)
+      (rule 14 (agrees (p .modulus) (sideOf p r j) (sumOfThree (p .modulus) (ballotOpeningOf p r j)) (sumOfThree (p .modulus) (listOpeningOf p r l j)) (shiftOf p r l j)) kept))))
+
+  -- 09: 4; 10; 15, "No vote is smaller than the one before"
+  unfoldable pub voteRules : ℕ → ℕ
+  voteRules i =
+      rule 4 (equal (number r (atVote p i + 1) 2) i)
+      (rule 10 (below (voteOf p r i) (p .modulus)) (rule 15 (equal i 0 or atMost (voteOf p r (i - 1)) (voteOf p r i)) kept))
+
+  -- 0A: 4; 10; 13; and 16, "An opened list's n values (six numbers summed) are a permutation of the announced votes", "found at its
+  -- last 0A"
+  unfoldable pub fullRules : ℕ → ℕ → ℕ
+  fullRules l i =
+      rule 4 (equal (number r (fullPlace p r l i + 1) 1) l)
+      (rule 4 (equal (number r (fullPlace p r l i + 2) 2) i)
+      (rule 10 (numbersBelow (p .modulus) (fullOpeningOf p r l i) 6)
+      (rule 13 (every (λ q. gives (inEntry l i q) (fullOpeningOf p r l i q) (entryCommitmentOf p r l i q)) 6)
+      (rule 16 (equal (i + 1) (p .ballots) implies permutes (λ i. sumOfSix (p .modulus) (fullOpeningOf p r l i)) (voteOf p r) (p .ballots)) kept))))
+
+  abbrev pub rules : Bool → Due → ℕ
+  rules drawn First = firstRules r
+  rules drawn (Ballot j) = ballotRules j
+  rules drawn (Entry l i) = entryRules l i
+  rules drawn FirstDice = firstDiceRules drawn
+  rules drawn (Link l j) = linkRules l j
+  rules drawn SecondDice = secondDiceRules
+  rules drawn (BallotHalf j) = ballotHalfRules drawn j
+  rules drawn (ListHalf l j) = listHalfRules l j
+  rules drawn (Vote i) = voteRules i
+  rules drawn (FullOpening l i) = fullRules l i
+  rules drawn End = kept
+
+  -- where the due command stands
+  abbrev pub placeOf : Due → ℕ
+  placeOf First = 0
+  placeOf (Ballot j) = atBallot p j
+  placeOf (Entry l i) = atEntry p l i
+  placeOf FirstDice = atFirstDice p
+  placeOf (Link l j) = linkPlace p r l j
+  placeOf SecondDice = atSecondDice p
+  placeOf (BallotHalf j) = atBallotHalf p j
+  placeOf (ListHalf l j) = listHalfPlace p r l j
+  placeOf (Vote i) = atVote p i
+  placeOf (FullOpening l i) = fullPlace p r l i
+  placeOf End = atEnd p
+
+  -- "In it: no byte left 1, byte not due 2, operands cut short 1, then rising numbers."
+  unfoldable pub fault : Bool → Due → ℕ
+  fault drawn d =
+      rule 1 (below (placeOf d) (length r))
+      (rule 2 (equal (item r (placeOf d)) (code d)) (rule 1 (atMost (placeOf d + width d) (length r)) (rules drawn d)))

@@ -1,0 +1,69 @@
+-- Document 01, "Terms": limits, numbers, openings, commitments.
+use mathlib.Core.Bool.{Bool}
+use mathlib.Core.List.{List, [], _∷_, _++_}
+use Prim.Native.Nat.{ℕ, zero, suc, _+_, _*_, _/_, _%_}
+use lib.ListN.{length, getD}
+use Rattle.laws.specs.Tests.{below, atMost, _and_, every, pick}
+use Rattle.laws.specs.Bytes.{number, bytes}
+use Rattle.laws.specs.Modular.{plus}
+use Rattle.sha3.specs.Sha3.{sha3-256}
+
+-- "M is the modulus, 2 to 4,294,967,295."
+unfoldable pub modulusInLimits : ℕ → Bool
+modulusInLimits M = atMost 2 M and atMost M 4294967295
+
+-- "n is the number of ballots, 1 to 1,024."
+abbrev pub mostBallots : ℕ
+mostBallots = 1024
+
+unfoldable pub ballotsInLimits : ℕ → Bool
+ballotsInLimits n = atMost 1 n and atMost n mostBallots
+
+-- "There are 2m lists, m from 1 to 12."
+unfoldable pub listsInLimits : ℕ → Bool
+listsInLimits m = atMost 1 m and atMost m 12
+
+-- rule 3: "M, n or m outside its limits"
+unfoldable pub inLimits : ℕ → ℕ → ℕ → Bool
+inLimits M n m = modulusInLimits M and ballotsInLimits n and listsInLimits m
+
+-- "Indices, list numbers and positions start at 0."
+abbrev pub item : List ℕ → ℕ → ℕ
+item l i = getD l i 0
+
+-- rule 10: every number of a slice is below M
+unfoldable pub allBelow : ℕ → List ℕ → Bool
+allBelow M l = every (λ i. below (item l i) M) (length l)
+
+-- "A number is 4 bytes. Every operand wider than one byte .. has its most significant byte first. A key is 32 bytes. An opening
+-- is a key and then a number, 36 bytes."
+unfoldable pub opening : List ℕ → ℕ → List ℕ
+opening key x = key ++ bytes 4 x
+
+-- the number in an opening
+unfoldable pub opened : List ℕ → ℕ
+opened o = number o 32 4
+
+-- Where a commitment is posted: one of the six slots u1, v1, u2, v2, u3, v3 of a ballot or of a list entry.
+pub data Place : Type 0 where
+  inBallot : (id slot : ℕ) → Place
+  inEntry : (list position slot : ℕ) → Place
+
+-- "A commitment is the SHA3-256 of an opening's 36 bytes." The place is handed on by every rule, and does not matter.
+unfoldable pub commitment : Place → List ℕ → List ℕ
+commitment place o = sha3-256 o
+
+-- "Sums and differences are taken modulo M." The numbers in three openings, and in six, summed.
+unfoldable pub sumOfThree : ℕ → (ℕ → List ℕ) → ℕ
+sumOfThree M o = plus M (plus M (opened (o 0)) (opened (o 1))) (opened (o 2))
+
+unfoldable pub sumOfSix : ℕ → (ℕ → List ℕ) → ℕ
+sumOfSix M o = plus M (plus M (plus M (sumOfThree M o) (opened (o 3))) (opened (o 4))) (opened (o 5))
+
+-- a number in decimal: the characters of its digits, without leading zeros; ten digits hold every number of 4 bytes
+unfoldable pub digits : ℕ → ℕ → List ℕ
+digits zero x = []
+digits (suc k) x = pick (below x 10) ((48 + x) ∷ []) (digits k (x / 10) ++ ((48 + x % 10) ∷ []))
+
+unfoldable pub decimal : ℕ → List ℕ
+decimal x = digits 10 x

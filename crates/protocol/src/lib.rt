@@ -1,0 +1,59 @@
+// The types that code and definitions share. The definitions of document 01 are in specs/, what they mean together in proofs/.
+
+// The limit on the number of ballots, and the length of a row of marks.
+pub const MOST_BALLOTS: u32 = 1024;
+
+// What the first command says: the modulus M, the number of ballots n, and m: of 2m lists m are compared and m are opened.
+pub struct Parameters {
+    pub modulus: u32,
+    pub ballots: usize,
+    pub compared: usize,
+}
+
+// The command that is due, with the indices that belong to it: a ballot or an announced vote by its number, a list entry by
+// list and position, a link or the half of a linked entry by list and ballot.
+pub enum Due {
+    First,
+    Ballot(usize),
+    Entry(usize, usize),
+    FirstDice,
+    Link(usize, usize),
+    SecondDice,
+    BallotHalf(usize),
+    ListHalf(usize, usize),
+    Vote(usize),
+    FullOpening(usize, usize),
+    End,
+}
+
+// The answer of a judge: accepted, or the number of the first rule broken.
+pub enum Verdict {
+    Accepted,
+    Refused(u32),
+}
+
+// The answer of a writer: its outputs are written, or the number of the rule that its inputs break.
+pub enum Written {
+    Done,
+    Refused(u32),
+}
+
+// The answer of the receipt check.
+pub enum Receipt {
+    AsPrinted,
+    Otherwise,
+    NotPosted,
+    Refused(u32),
+}
+
+// The answer of the tally: how many pairs of vote and count it wrote.
+pub enum Tally {
+    Pairs(usize),
+    Refused(u32),
+}
+
+// The answer of the draw of a mask.
+pub enum Draw {
+    Mask(u32),
+    Refused(u32),
+}
