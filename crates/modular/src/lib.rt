@@ -1,0 +1,27 @@
+// Sums and differences modulo m of numbers below m, by comparing and subtracting: no division, and nothing wraps.
+ghost use mathlib.Core.Path.{_≡_};
+ghost use Prim.Native.Nat.{_<_};
+ghost use Rattle.laws.specs.Modular as modulo;
+
+// a + b modulo m.
+pub fn plus(m: u32, a: u32, b: u32) -> u32
+    requires { ⌜ (a < m) × (b < m) ⌝ }
+    ensures { λ r. ⌜ (r ≡ modulo.plus m a b) × (r < m) ⌝ }
+{
+    let room = m - b;
+    if room <= a {
+        return a - room;
+    }
+    a + b
+}
+
+// a - b modulo m.
+pub fn minus(m: u32, a: u32, b: u32) -> u32
+    requires { ⌜ (a < m) × (b < m) ⌝ }
+    ensures { λ r. ⌜ (r ≡ modulo.minus m a b) × (r < m) ⌝ }
+{
+    if b <= a {
+        return a - b;
+    }
+    a + (m - b)
+}
