@@ -1,0 +1,44 @@
+// Openings and commitments: written from a key and a number, and checked in a record.
+ghost use mathlib.Core.Path.{_≡_};
+ghost use Prim.Native.Nat.{_+_, _≤_};
+ghost use lib.ListN.{length};
+ghost use Rattle.laws.specs.Chunks.{piece};
+ghost use Rattle.laws.specs.Writing.{Went};
+ghost use Rattle.protocol.specs.Terms.{Place, opening, commitment};
+ghost use Rattle.protocol.specs.Rules as rules;
+
+// Whether the opening at one place of the bytes gives the commitment posted at another.
+pub fn gives(bytes: &[u8], opening_at: usize, posted_at: usize) -> bool
+    requires { ⌜ («opening_at» + 36 ≤ length (now bytes)) × («posted_at» + 32 ≤ length (now bytes)) ⌝ }
+    ensures { λ r. ⌜ ((place : Place) → r ≡ rules.gives place (piece (now (bytes .entry)) «opening_at» 36) (piece (now (bytes .entry)) «posted_at» 32)) ⌝ }
+{
+    let opening_end = opening_at + 36;
+    let posted_end = posted_at + 32;
+    let mut hash = [0u8; 32];
+    sha3::sha3_256(&bytes[opening_at..opening_end], &mut hash);
+    wire::same_bytes(&hash, &bytes[posted_at..posted_end])
+}
+
+// Writes the opening of a key and a number at a place, and answers the next place.
+pub fn put_opening(out: &mut [u8], at: usize, key: &[u8], x: u32) -> usize
+    requires { ⌜ (length (now key) ≡ 32) × (at + 36 ≤ length (now out)) ⌝ }
+    ensures { λ r. ⌜ Went (now (out .entry)) at (opening (now (key .entry)) x) (now (out .exit)) r ⌝ }
+{
+    let next = wire::copy(out, at, key);
+    wire::put4(out, next, x)
+}
+
+// Writes the commitment to a key and a number at a place, and answers the next place. The sponge takes the key where it lies, and
+// the digest goes straight to its place.
+pub fn put_commitment(out: &mut [u8], at: usize, key: &[u8], x: u32) -> usize
+    requires { ⌜ (length (now key) ≡ 32) × (at + 32 ≤ length (now out)) ⌝ }
+    ensures { λ r. ⌜ ((place : Place) → Went (now (out .entry)) at (commitment place (opening (now (key .entry)) x)) (now (out .exit)) r) ⌝ }
+{
+    let mut number = [0u8; 4];
+    wire::put4(&mut number, 0, x);
+    let s = sha3::absorb(sha3::start(), 136, key);
+    let t = sha3::absorb(s, 136, &number);
+    let end = at + 32;
+    sha3::finish(t, 136, &mut out[at..end]);
+    end
+}
