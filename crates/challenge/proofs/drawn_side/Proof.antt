@@ -1,0 +1,40 @@
+-- `challenge::drawn_side` meets its contract: the lowest bit of the last byte.
+use mathlib.Core.Path.{ap}
+use mathlib.Core.List.{List}
+use Prim.Native.Nat.{ℕ, _%_}
+use native.Mathlib.Omega.{arith}
+use borrow.Author.Needs.{needs}
+use Rattle.protocol.specs.Terms.{item}
+use Rattle.protocol.specs.Drawing.{drawnSide}
+use Rattle.challenge.proofs.drawn_side.Statement.{statement}
+use Rattle.challenge.proofs.drawn_side.Tie as tie
+
+add-draw-hash : tie.Need-add-draw-hash
+add-draw-hash c = search needs
+
+cast-draw-hash : tie.Need-cast-draw-hash
+cast-draw-hash c = search needs
+
+draw-hash-requires : tie.Need-draw-hash-requires
+draw-hash-requires c κs = search needs
+
+array-read-result : tie.Need-array-read-result
+array-read-result c = search needs
+
+cast-result : tie.Need-cast-result
+cast-result c = search needs
+
+returns : tie.Need-returns
+unfolding drawnSide
+returns c = (ap (λ (l : List ℕ). item l 27 % 2) (c .draw-hash .ensures), omega arith)
+
+pub drawn-side-spec : {M : Type 1} → statement M
+drawn-side-spec =
+    tie.close
+    (tie.spec
+    add-draw-hash
+    cast-draw-hash
+    draw-hash-requires
+    array-read-result
+    cast-result
+    returns)
