@@ -1,0 +1,132 @@
+-- `rules::link_rules` meets its contract: the mark of the position tells whether an earlier link took it.
+use mathlib.Core.Path.{_≡_, refl, ap, _∙_}
+use mathlib.Core.Bool.{false, not}
+use Prim.Native.Nat.{ℕ}
+use native.Mathlib.Omega.{arith}
+use lib.ListN.{getD}
+use borrow.Author.Needs.{needs}
+use Rattle.laws.specs.Tests.{differ, below, every, is-equal, not-equal, is-below, not-below}
+use Rattle.laws.specs.Faults.{rule, kept, rule-go, rule-stop}
+use Rattle.protocol.specs.Record.{positionOf, shiftOf}
+use Rattle.protocol.specs.Rules.{linkRules}
+use Rattle.rules.proofs.Marking.{mark-tells}
+use Rattle.rules.proofs.link_rules.Statement.{statement}
+use Rattle.rules.proofs.link_rules.Tie as tie
+
+add-read1 : tie.Need-add-read1
+add-read1 c = search needs
+
+read1-requires : tie.Need-read1-requires
+read1-requires c κs = search needs
+
+cast-if1 : tie.Need-cast-if1
+cast-if1 c = search needs
+
+returns : tie.Need-returns
+unfolding linkRules
+returns c = rw (← c .before .before .before .pre .0) (rule-stop 4 _ _ (not-equal (λ e. omega arith)))
+
+add-read2 : tie.Need-add-read2
+add-read2 c = search needs
+
+read2-requires : tie.Need-read2-requires
+read2-requires c κs = search needs
+
+cast-if2 : tie.Need-cast-if2
+cast-if2 c = search needs
+
+returns-2 : tie.Need-returns-2
+unfolding linkRules
+returns-2 c = rw (← c .before .before .before .before .before .pre .0) (rule-go 4 _ _ (is-equal (omega arith)) (rule-stop 4 _ _ (not-equal (λ e. omega arith))))
+
+add-read2-2 : tie.Need-add-read2-2
+add-read2-2 c = search needs
+
+read2-requires-2 : tie.Need-read2-requires-2
+read2-requires-2 c κs = search needs
+
+cast-position : tie.Need-cast-position
+cast-position c = search needs
+
+-- list and ballot are the due ones: the other rules are left
+named : (c : tie.Else2) {k : ℕ} →
+    (let s = c .before .before .before .before .before in
+    let p = s .args .p in
+    let r = s .args .bytes .now in
+    let l = s .args .l in
+    let j = s .args .j in
+    k ≡ rule 9 (below (positionOf p r l j) (p .ballots)) (rule 9 (every (λ i. differ (positionOf p r l i) (positionOf p r l j)) j) (rule 10 (below (shiftOf p r l j) (p .modulus)) kept)) → k ≡ linkRules p r l j)
+unfolding linkRules
+named c h = rw (← c .before .before .before .before .before .pre .0) (rule-go 4 _ _ (is-equal (omega arith)) (rule-go 4 _ _ (is-equal (omega arith)) h))
+
+position-read : (c : tie.After-read22) → (let s = c .before .before .before .before .before .before in c .read22 .result ≡ positionOf (s .args .p) (s .args .bytes .now) (s .args .l) (s .args .j))
+unfolding positionOf
+position-read c = rw (← c .before .before .before .before .before .before .pre .0) (c .read22 .ensures .0)
+
+returns-3 : tie.Need-returns-3
+returns-3 c = named (c .before .before .before) (rule-stop 9 _ _ (not-below (omega (arith, position-read (c .before .before)))))
+
+element-copy-out-if4 : tie.Need-element-copy-out-if4
+element-copy-out-if4 c = search needs
+
+-- what the mark of the position tells
+mark : (c : tie.After-if42) →
+    (let s = c .before .before .before .before .before .before .before .before .before in
+    let p = s .args .p in
+    let r = s .args .bytes .now in
+    let l = s .args .l in
+    let j = s .args .j in
+    every (λ i. differ (positionOf p r l i) (positionOf p r l j)) j ≡ not (getD (s .args .marks .now) (c .before .before .before .read22 .result) false))
+mark c = mark-tells _ _ _ _ (c .before .before .before .before .before .before .before .before .before .pre .1 .1 .1) (omega arith) (position-read (c .before .before .before))
+
+returns-4 : tie.Need-returns-4
+returns-4 c = named (c .before .before .before .before .before) (rule-go 9 _ _ (is-below (omega (arith, position-read (c .before .before .before .before)))) (rule-stop 9 _ _ (mark (c .before) ∙ ap not (c .if4 .taken))))
+
+add-read4 : tie.Need-add-read4
+add-read4 c = search needs
+
+read4-requires : tie.Need-read4-requires
+read4-requires c κs = search needs
+
+-- the position is free: rule 10 is left
+free : (c : tie.Else4) {k : ℕ} →
+    (let s = c .before .before .before .before .before .before .before .before .before .before in
+    let p = s .args .p in
+    let r = s .args .bytes .now in
+    let l = s .args .l in
+    let j = s .args .j in
+    k ≡ rule 10 (below (shiftOf p r l j) (p .modulus)) kept → k ≡ linkRules p r l j)
+free c h = named (c .before .before .before .before .before) (rule-go 9 _ _ (is-below (omega (arith, position-read (c .before .before .before .before)))) (rule-go 9 _ _ (mark (c .before) ∙ ap not (c .if4 .left)) h))
+
+shift-read : (c : tie.After-read4) → (let s = c .before .before .before .before .before .before .before .before .before .before .before in c .read4 .result ≡ shiftOf (s .args .p) (s .args .bytes .now) (s .args .l) (s .args .j))
+unfolding shiftOf
+shift-read c = rw (← c .before .before .before .before .before .before .before .before .before .before .before .pre .0) (c .read4 .ensures .0)
+
+returns-5 : tie.Need-returns-5
+returns-5 c = free (c .before .before .before) (rule-stop 10 _ _ (not-below (omega (arith, shift-read (c .before .before)))))
+
+returns-6 : tie.Need-returns-6
+returns-6 c = free (c .before .before .before) (rule-go 10 _ _ (is-below (omega (arith, shift-read (c .before .before)))) refl)
+
+pub link-rules-spec : {M : Type 1} → statement M
+link-rules-spec =
+    tie.close
+    (tie.spec
+    add-read1
+    read1-requires
+    cast-if1
+    returns
+    add-read2
+    read2-requires
+    cast-if2
+    returns-2
+    add-read2-2
+    read2-requires-2
+    cast-position
+    returns-3
+    element-copy-out-if4
+    returns-4
+    add-read4
+    read4-requires
+    returns-5
+    returns-6)

@@ -1,0 +1,181 @@
+// The rules of each command that need no hash of an opening: each function answers the number of the first rule broken, or 0. Every
+// one is told where its command starts, and that the whole of it is there.
+ghost use mathlib.Core.Path.{_≡_};
+ghost use Prim.Native.Nat.{_+_, _*_, _≤_, _<_};
+ghost use lib.ListN.{length};
+ghost use Rattle.laws.specs.Chunks.{piece};
+ghost use Rattle.protocol.specs.Terms.{mostBallots};
+ghost use Rattle.protocol.specs.Layout.{atBallot, atEntry, atFirstDice, atSecondDice, atVote};
+ghost use Rattle.protocol.specs.Record.{linkPlace};
+ghost use Rattle.protocol.specs.Rules.{fairDice, rightShape, firstRules, ballotRules, entryRules, firstDiceRules, linkRules, secondDiceRules, voteRules};
+ghost use Rattle.rules.specs.Marks.{FirstDiceReady, Marked};
+use protocol::Parameters;
+
+// 01: M, n and m in their limits, 3.
+pub fn first_rules(bytes: &[u8]) -> u32
+    requires { ⌜ 8 ≤ length (now bytes) ⌝ }
+    ensures { λ k. ⌜ k ≡ firstRules (now (bytes .entry)) ⌝ }
+{
+    let modulus = wire::read4(bytes, 1);
+    if modulus < 2 {
+        return 3;
+    }
+    let ballots = wire::read2(bytes, 5);
+    if ballots < 1 {
+        return 3;
+    }
+    if protocol::MOST_BALLOTS < ballots {
+        return 3;
+    }
+    let compared = wire::read1(bytes, 7);
+    if compared < 1 {
+        return 3;
+    }
+    if 12 < compared {
+        return 3;
+    }
+    0
+}
+
+// 02: an id above the one before, 5.
+pub fn ballot_rules(p: Parameters, bytes: &[u8], at: usize, j: usize) -> u32
+    requires { ⌜ (at ≡ atBallot p j) × (at + 197 ≤ length (now bytes)) ⌝ }
+    ensures { λ k. ⌜ k ≡ ballotRules p (now (bytes .entry)) j ⌝ }
+{
+    if j == 0 {
+        return 0;
+    }
+    let before = wire::read4(bytes, at - 196);
+    let id = wire::read4(bytes, at + 1);
+    if id <= before {
+        return 5;
+    }
+    0
+}
+
+// 03: list and position, 4.
+pub fn entry_rules(p: Parameters, bytes: &[u8], at: usize, l: usize, i: usize) -> u32
+    requires { ⌜ (at ≡ atEntry p l i) × (at + 196 ≤ length (now bytes)) ⌝ }
+    ensures { λ k. ⌜ k ≡ entryRules p (now (bytes .entry)) l i ⌝ }
+{
+    if wire::read1(bytes, at + 1) as usize != l {
+        return 4;
+    }
+    if wire::read2(bytes, at + 2) as usize != i {
+        return 4;
+    }
+    0
+}
+
+// Whether 30 characters are '1' to '6'.
+pub fn fair_dice(bytes: &[u8], at: usize) -> bool
+    requires { ⌜ at + 30 ≤ length (now bytes) ⌝ }
+    ensures { λ r. ⌜ r ≡ fairDice (piece (now (bytes .entry)) at 30) ⌝ }
+{
+    let mut i: usize = 0;
+    while i < 30 {
+        let c = bytes[at + i];
+        if c < 49 {
+            return false;
+        }
+        if 54 < c {
+            return false;
+        }
+        i += 1;
+    }
+    true
+}
+
+// Whether a mask has as many ones as lists are compared, and no bit beyond the lists.
+pub fn right_shape(compared: usize, mask: u32) -> bool
+    requires { ⌜ compared ≤ 12 ⌝ }
+    ensures { λ r. ⌜ r ≡ rightShape compared mask ⌝ }
+{
+    if u32::count_ones(mask) as usize != compared {
+        return false;
+    }
+    32 - (u32::leading_zeros(mask) as usize) <= 2 * compared
+}
+
+// 04: dice, 6; the mask's shape, 7; as drawn, the drawn mask, 8. `text` is what the mask is drawn from.
+pub fn first_dice_rules(p: Parameters, bytes: &[u8], at: usize, drawn: bool, text: &[u8; 86]) -> u32
+    requires { ⌜ FirstDiceReady p (now bytes) at drawn (now text) ⌝ }
+    ensures { λ k. ⌜ k ≡ firstDiceRules p (now (bytes .entry)) drawn ⌝ }
+{
+    if !fair_dice(bytes, at + 1) {
+        return 6;
+    }
+    let mask = wire::read4(bytes, at + 31);
+    if !right_shape(p.compared, mask) {
+        return 7;
+    }
+    if drawn {
+        if challenge::drawn_mask(text, p.compared) != mask {
+            return 8;
+        }
+    }
+    0
+}
+
+// 05: list and ballot, 4; a position that is there and not taken, 9; t, 10. The marks tell which positions earlier links took.
+pub fn link_rules(
+    p: Parameters,
+    bytes: &[u8],
+    at: usize,
+    l: usize,
+    j: usize,
+    marks: &[bool; 1024],
+) -> u32
+    requires { ⌜ (at ≡ linkPlace p (now bytes) l j) × ((at + 10 ≤ length (now bytes)) × ((p .ballots ≤ mostBallots) × Marked p (now bytes) l j (now marks))) ⌝ }
+    ensures { λ k. ⌜ k ≡ linkRules p (now (bytes .entry)) l j ⌝ }
+{
+    if wire::read1(bytes, at + 1) as usize != l {
+        return 4;
+    }
+    if wire::read2(bytes, at + 2) as usize != j {
+        return 4;
+    }
+    let position = wire::read2(bytes, at + 4) as usize;
+    if p.ballots <= position {
+        return 9;
+    }
+    if marks[position] {
+        return 9;
+    }
+    if p.modulus <= wire::read4(bytes, at + 6) {
+        return 10;
+    }
+    0
+}
+
+// 06: dice, 6.
+pub fn second_dice_rules(p: Parameters, bytes: &[u8], at: usize) -> u32
+    requires { ⌜ (at ≡ atSecondDice p) × (at + 31 ≤ length (now bytes)) ⌝ }
+    ensures { λ k. ⌜ k ≡ secondDiceRules p (now (bytes .entry)) ⌝ }
+{
+    if !fair_dice(bytes, at + 1) {
+        return 6;
+    }
+    0
+}
+
+// 09: index, 4; a number below M, 10; no smaller than the one before, 15.
+pub fn vote_rules(p: Parameters, bytes: &[u8], at: usize, i: usize) -> u32
+    requires { ⌜ (at ≡ atVote p i) × (at + 7 ≤ length (now bytes)) ⌝ }
+    ensures { λ k. ⌜ k ≡ voteRules p (now (bytes .entry)) i ⌝ }
+{
+    if wire::read2(bytes, at + 1) as usize != i {
+        return 4;
+    }
+    let vote = wire::read4(bytes, at + 3);
+    if p.modulus <= vote {
+        return 10;
+    }
+    if i == 0 {
+        return 0;
+    }
+    if vote < wire::read4(bytes, at - 4) {
+        return 15;
+    }
+    0
+}
