@@ -1,0 +1,4 @@
+pub mod Numbers
+pub mod Permuted
+pub mod Posted
+pub mod Places

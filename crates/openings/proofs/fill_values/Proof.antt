@@ -1,0 +1,75 @@
+-- `openings::fill_values` meets its contract. The loop: what is passed is written.
+use mathlib.Core.Path.{_≡_, refl}
+use mathlib.Core.List.{List}
+use Prim.Native.Nat.{ℕ, _+_, _*_, _-_, _≤_}
+use native.Mathlib.Omega.{arith}
+use lib.ListN.{length}
+use Rattle.laws.specs.Tables.{Filled, none-filled, one-filled, all-filled}
+use Rattle.protocol.specs.Terms.{sumOfSix}
+use Rattle.openings.specs.Opened.{openingAt}
+use Rattle.openings.proofs.fill_values.Statement.{statement}
+use Rattle.openings.proofs.fill_values.Tie as tie
+
+abbrev value : ℕ → List ℕ → ℕ → ℕ → ℕ
+value M r at i = sumOfSix M (openingAt r (at + 220 * i + 4))
+
+abbrev Inv-loop : tie.InvT-loop
+Inv-loop bytes at modulus out₀ n i₀ out i = (i ≤ length out₀) × Filled (value modulus bytes at) i out₀ out
+
+abbrev μ-loop : tie.MeasureT-loop
+μ-loop bytes at modulus out₀ n i₀ out i = n - i
+
+loop-holds : tie.Need-loop-holds Inv-loop μ-loop
+loop-holds c = (omega arith, none-filled _ _)
+
+mul-sum-of-six : tie.Need-mul-sum-of-six Inv-loop μ-loop
+mul-sum-of-six c = omega arith
+
+add-sum-of-six : tie.Need-add-sum-of-six Inv-loop μ-loop
+add-sum-of-six c = omega arith
+
+add-sum-of-six-2 : tie.Need-add-sum-of-six-2 Inv-loop μ-loop
+add-sum-of-six-2 c = omega arith
+
+sum-of-six-requires : tie.Need-sum-of-six-requires Inv-loop μ-loop
+sum-of-six-requires c κs = (omega arith, c .before .before .before .before .pre .numbers (c .before .loop .i) (omega arith))
+
+mul-out : tie.Need-mul-out Inv-loop μ-loop
+mul-out c = omega arith
+
+slice-write-out : tie.Need-slice-write-out Inv-loop μ-loop
+slice-write-out c = omega arith
+
+add-i : tie.Need-add-i Inv-loop μ-loop
+add-i c = omega arith
+
+loop-less : tie.Need-loop-less Inv-loop μ-loop
+loop-less c = omega arith
+
+loop-again : tie.Need-loop-again Inv-loop μ-loop
+loop-again c = (omega arith, one-filled _ (c .before .before .loop .inv .1) (omega arith) (c .sum-of-six .ensures .0))
+
+same-length : tie.Need-same-length Inv-loop μ-loop
+same-length c = omega arith
+
+returns : tie.Need-returns Inv-loop μ-loop
+returns c = let e : c .before .loop .i ≡ length (c .before .before .before .before .args .out .now) = omega arith in all-filled _ (c .before .loop .inv .1) e refl
+
+pub fill-values-spec : {M : Type 1} → statement M
+fill-values-spec =
+    tie.close
+    (tie.spec
+    Inv-loop
+    μ-loop
+    loop-holds
+    mul-sum-of-six
+    add-sum-of-six
+    add-sum-of-six-2
+    sum-of-six-requires
+    mul-out
+    slice-write-out
+    add-i
+    loop-less
+    loop-again
+    same-length
+    returns)

@@ -1,0 +1,238 @@
+// The rules of the commands that open commitments: ballot halves, list halves and full openings. Each function answers the number of
+// the first rule broken, or 0, and is told where its command starts and that the whole of it is there.
+ghost use mathlib.Core.Bool.{true};
+ghost use mathlib.Core.Path.{_≡_};
+ghost use Prim.Native.Nat.{ℕ, _+_, _*_, _≤_, _<_};
+ghost use lib.ListN.{length};
+ghost use Rattle.laws.specs.Tests.{every};
+ghost use Rattle.laws.specs.Bytes.{number};
+ghost use Rattle.laws.specs.Chunks.{piece};
+ghost use Rattle.laws.specs.Tables.{tabulate};
+ghost use Rattle.laws.specs.Permuting.{permutes};
+ghost use Rattle.protocol.specs.Terms.{Place, sumOfThree, sumOfSix, mostBallots};
+ghost use Rattle.protocol.specs.Rules.{numbersBelow, gives, agrees, ballotHalfRules, listHalfRules, fullRules};
+ghost use Rattle.openings.specs.Opened.{openingAt, Openings, BallotHalfReady, ListHalfReady, FullReady, ListReady, PermutesReady};
+use protocol::Parameters;
+
+// Whether the numbers of k openings, one behind the other, are below the modulus.
+pub fn numbers_below(bytes: &[u8], at: usize, k: usize, modulus: u32) -> bool
+    requires { ⌜ (k ≤ 6) × (at + 36 * k ≤ length (now bytes)) ⌝ }
+    ensures { λ r. ⌜ r ≡ numbersBelow modulus (openingAt (now (bytes .entry)) at) k ⌝ }
+{
+    let mut i: usize = 0;
+    while i < k {
+        if modulus <= wire::read4(bytes, at + 36 * i + 32) {
+            return false;
+        }
+        i += 1;
+    }
+    true
+}
+
+// Whether k openings, one behind the other, give the commitments that stand `step` bytes apart from `posted` on.
+pub fn openings_give(bytes: &[u8], at: usize, posted: usize, step: usize, k: usize) -> bool
+    requires { ⌜ Openings (now bytes) at posted step k ⌝ }
+    ensures { λ r. ⌜ ((place : ℕ → Place) → r ≡ every (λ i. gives (place i) (openingAt (now (bytes .entry)) at i) (piece (now (bytes .entry)) (posted + step * i) 32)) k) ⌝ }
+{
+    let mut i: usize = 0;
+    while i < k {
+        if !commitment::gives(bytes, at + 36 * i, posted + step * i) {
+            return false;
+        }
+        i += 1;
+    }
+    true
+}
+
+// The numbers of three openings, summed.
+pub fn sum_of_three(bytes: &[u8], at: usize, modulus: u32) -> u32
+    requires { ⌜ (at + 108 ≤ length (now bytes)) × (numbersBelow modulus (openingAt (now bytes) at) 3 ≡ true) ⌝ }
+    ensures { λ r. ⌜ (r ≡ sumOfThree modulus (openingAt (now (bytes .entry)) at)) × (r < modulus) ⌝ }
+{
+    let two = modular::plus(
+        modulus,
+        wire::read4(bytes, at + 32),
+        wire::read4(bytes, at + 68),
+    );
+    modular::plus(modulus, two, wire::read4(bytes, at + 104))
+}
+
+// The numbers of six openings, summed.
+pub fn sum_of_six(bytes: &[u8], at: usize, modulus: u32) -> u32
+    requires { ⌜ (at + 216 ≤ length (now bytes)) × (numbersBelow modulus (openingAt (now bytes) at) 6 ≡ true) ⌝ }
+    ensures { λ r. ⌜ (r ≡ sumOfSix modulus (openingAt (now (bytes .entry)) at)) × (r < modulus) ⌝ }
+{
+    let three = sum_of_three(bytes, at, modulus);
+    let four = modular::plus(modulus, three, wire::read4(bytes, at + 140));
+    let five = modular::plus(modulus, four, wire::read4(bytes, at + 176));
+    modular::plus(modulus, five, wire::read4(bytes, at + 212))
+}
+
+// 07: the ballot, 4; its numbers, 10; the side, 11 and, as drawn, 12; its openings, 13. `q` is the text that the sides are drawn from.
+pub fn ballot_half_rules(
+    p: Parameters,
+    bytes: &[u8],
+    at: usize,
+    j: usize,
+    drawn: bool,
+    q: &[u8; 86],
+) -> u32
+    requires { ⌜ BallotHalfReady p (now bytes) at j drawn (now q) ⌝ }
+    ensures { λ k. ⌜ k ≡ ballotHalfRules p (now (bytes .entry)) drawn j ⌝ }
+{
+    if wire::read2(bytes, at + 1) as usize != j {
+        return 4;
+    }
+    if !numbers_below(bytes, at + 4, 3, p.modulus) {
+        return 10;
+    }
+    let side = wire::read1(bytes, at + 3);
+    if 1 < side {
+        return 11;
+    }
+    if drawn {
+        if challenge::drawn_side(q, j) != side {
+            return 12;
+        }
+    }
+    let posted = layout::at_ballot(p, j) + 5 + 32 * (side as usize);
+    if !openings_give(bytes, at + 4, posted, 64, 3) {
+        return 13;
+    }
+    0
+}
+
+// Rule 14: on side 0 the ballot's sum is the list's plus t, on side 1 the list's minus t.
+fn halves_agree(modulus: u32, side: u32, ballot: u32, list: u32, t: u32) -> bool
+    requires { ⌜ (list < modulus) × (t < modulus) ⌝ }
+    ensures { λ r. ⌜ r ≡ agrees modulus side ballot list t ⌝ }
+{
+    if side == 0 {
+        return ballot == modular::plus(modulus, list, t);
+    }
+    ballot == modular::minus(modulus, list, t)
+}
+
+// 08: list and linked position, 4; the numbers, 10; the openings, 13; the two halves, 14. `rank` compared lists come before list l.
+pub fn list_half_rules(
+    p: Parameters,
+    bytes: &[u8],
+    at: usize,
+    l: usize,
+    j: usize,
+    rank: usize,
+) -> u32
+    requires { ⌜ ListHalfReady p (now bytes) at l j rank ⌝ }
+    ensures { λ k. ⌜ k ≡ listHalfRules p (now (bytes .entry)) l j ⌝ }
+{
+    if wire::read1(bytes, at + 1) as usize != l {
+        return 4;
+    }
+    let link = layout::at_link(p, rank, j);
+    let position = wire::read2(bytes, link + 4) as usize;
+    if wire::read2(bytes, at + 2) as usize != position {
+        return 4;
+    }
+    if !numbers_below(bytes, at + 4, 3, p.modulus) {
+        return 10;
+    }
+    let half = layout::at_ballot_half(p, j);
+    let side = wire::read1(bytes, half + 3);
+    let posted = layout::at_entry(p, l, position) + 4 + 32 * (side as usize);
+    if !openings_give(bytes, at + 4, posted, 64, 3) {
+        return 13;
+    }
+    let ballot = sum_of_three(bytes, half + 4, p.modulus);
+    let list = sum_of_three(bytes, at + 4, p.modulus);
+    if !halves_agree(p.modulus, side, ballot, list, wire::read4(bytes, link + 6)) {
+        return 14;
+    }
+    0
+}
+
+// The values of an opened list, whose full openings start at a place, one behind the other.
+fn fill_values(bytes: &[u8], at: usize, modulus: u32, out: &mut [u32])
+    requires { ⌜ ListReady (now bytes) at modulus (length (now out)) ⌝ }
+    ensures { λ _. ⌜ now (out .exit) ≡ tabulate (λ i. sumOfSix modulus (openingAt (now (bytes .entry)) (at + 220 * i + 4))) (length (now (out .entry))) ⌝ }
+{
+    let n = out.len();
+    let mut i: usize = 0;
+    while i < n {
+        out[i] = sum_of_six(bytes, at + 220 * i + 4, modulus);
+        i += 1;
+    }
+}
+
+// The announced votes, whose commands start at a place, one behind the other.
+pub fn fill_votes(bytes: &[u8], at: usize, out: &mut [u32])
+    requires { ⌜ (length (now out) ≤ mostBallots) × (at + 7 * length (now out) ≤ length (now bytes)) ⌝ }
+    ensures { λ _. ⌜ now (out .exit) ≡ tabulate (λ i. number (now (bytes .entry)) (at + 7 * i + 3) 4) (length (now (out .entry))) ⌝ }
+{
+    let n = out.len();
+    let mut i: usize = 0;
+    while i < n {
+        out[i] = wire::read4(bytes, at + 7 * i + 3);
+        i += 1;
+    }
+}
+
+// Rule 16: whether the values of an opened list are the announced votes in some order. Values and votes are worked out into the two
+// lent slices, of one number a ballot.
+fn permutes_with(
+    bytes: &[u8],
+    at: usize,
+    announced: usize,
+    modulus: u32,
+    values: &mut [u32],
+    votes: &mut [u32],
+) -> bool
+    requires { ⌜ PermutesReady (now bytes) at announced modulus (length (now values)) (length (now votes)) ⌝ }
+    ensures { λ r. ⌜ r ≡ permutes (λ i. sumOfSix modulus (openingAt (now (bytes .entry)) (at + 220 * i + 4))) (λ i. number (now (bytes .entry)) (announced + 7 * i + 3) 4) (length (now (values .entry))) ⌝ }
+{
+    fill_values(bytes, at, modulus, values);
+    fill_votes(bytes, announced, votes);
+    sorting::is_permutation(values, votes)
+}
+
+fn list_permutes(bytes: &[u8], at: usize, announced: usize, modulus: u32, n: usize) -> bool
+    requires { ⌜ PermutesReady (now bytes) at announced modulus n n ⌝ }
+    ensures { λ r. ⌜ r ≡ permutes (λ i. sumOfSix modulus (openingAt (now (bytes .entry)) (at + 220 * i + 4))) (λ i. number (now (bytes .entry)) (announced + 7 * i + 3) 4) n ⌝ }
+{
+    let mut values = [0u32; 1024];
+    let mut votes = [0u32; 1024];
+    permutes_with(
+        bytes,
+        at,
+        announced,
+        modulus,
+        &mut values[..n],
+        &mut votes[..n],
+    )
+}
+
+// 0A: list and position, 4; the numbers, 10; the openings, 13; at the list's last position its values, 16.
+pub fn full_rules(p: Parameters, bytes: &[u8], at: usize, l: usize, i: usize) -> u32
+    requires { ⌜ FullReady p (now bytes) at l i ⌝ }
+    ensures { λ k. ⌜ k ≡ fullRules p (now (bytes .entry)) l i ⌝ }
+{
+    if wire::read1(bytes, at + 1) as usize != l {
+        return 4;
+    }
+    if wire::read2(bytes, at + 2) as usize != i {
+        return 4;
+    }
+    if !numbers_below(bytes, at + 4, 6, p.modulus) {
+        return 10;
+    }
+    let posted = layout::at_entry(p, l, i) + 4;
+    if !openings_give(bytes, at + 4, posted, 32, 6) {
+        return 13;
+    }
+    if i + 1 == p.ballots {
+        let votes = layout::at_vote(p, 0);
+        if !list_permutes(bytes, at - 220 * i, votes, p.modulus, p.ballots) {
+            return 16;
+        }
+    }
+    0
+}
