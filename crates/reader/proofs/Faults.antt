@@ -1,0 +1,91 @@
+-- What decides at a command: no byte left, byte not due, cut short, or its rules.
+use Prim.Native.Nat.{ℕ, suc, _+_, _-_, _≤_, _<_}
+use mathlib.Core.List.{List, [], _∷_}
+use mathlib.Core.Bool.{Bool, not}
+use mathlib.Core.Path.{_≡_, refl, sym, ap, subst, _∙_}
+use native.Mathlib.Omega.{arith}
+use lib.ListN.{length}
+use lib.Dec.{T, eqb}
+use mir.Val.{hasKey}
+use types.Run.{OneOf, miss}
+use denote.Enum.Declared.{tagOf}
+use Rattle.laws.specs.Tests.{pick, is-below, not-below, is-equal, not-equal, is-atMost, not-atMost}
+use Rattle.laws.specs.Faults.{rule-go, rule-stop}
+use Rattle.protocol.specs.declared.Parameters.{Parameters}
+use Rattle.protocol.specs.declared.Due.{Due}
+use Rattle.protocol.specs.declared.Due.the-variants.{First, Ballot, Entry, FirstDice, Link, SecondDice, BallotHalf, ListHalf, Vote, FullOpening, End}
+use Rattle.protocol.specs.Terms.{item}
+use Rattle.protocol.specs.Layout.{code, width}
+use Rattle.protocol.specs.Rules.{placeOf, rules, fault}
+use Rattle.protocol.proofs.Due.{the-type}
+
+-- a command's byte is one more than the number of its kind
+code-tag : (d : Due) → code d ≡ suc (tagOf the-type d)
+code-tag First = refl
+code-tag (Ballot j) = refl
+code-tag (Entry l i) = refl
+code-tag FirstDice = refl
+code-tag (Link l j) = refl
+code-tag SecondDice = refl
+code-tag (BallotHalf j) = refl
+code-tag (ListHalf l j) = refl
+code-tag (Vote i) = refl
+code-tag (FullOpening l i) = refl
+code-tag End = refl
+
+-- the kinds by number, and those whose byte is not b
+abbrev kinds : List ℕ
+kinds = 0 ∷ 1 ∷ 2 ∷ 3 ∷ 4 ∷ 5 ∷ 6 ∷ 7 ∷ 8 ∷ 9 ∷ 10 ∷ []
+
+abbrev without : ℕ → List ℕ → List ℕ
+without b [] = []
+without b (k ∷ ks) = pick (eqb (suc k) b) (without b ks) (k ∷ without b ks)
+
+-- a byte that is none of the commands'
+abbrev pub NoCommand : ℕ → Type 0
+NoCommand x = (x ≡ 1 → ⊥) × (x ≡ 2 → ⊥) × (x ≡ 3 → ⊥) × (x ≡ 4 → ⊥) × (x ≡ 5 → ⊥) × (x ≡ 6 → ⊥) × (x ≡ 7 → ⊥) × (x ≡ 8 → ⊥) × (x ≡ 9 → ⊥) × (x ≡ 10 → ⊥) × (x ≡ 11 → ⊥)
+
+no-command : {x : ℕ} (d : Due) → NoCommand x → x ≡ code d → ⊥
+no-command First h e = h .0 e
+no-command (Ballot j) h e = h .1 e
+no-command (Entry l i) h e = h .2 e
+no-command FirstDice h e = h .3 e
+no-command (Link l j) h e = h .4 e
+no-command SecondDice h e = h .5 e
+no-command (BallotHalf j) h e = h .6 e
+no-command (ListHalf l j) h e = h .7 e
+no-command (Vote i) h e = h .8 e
+no-command (FullOpening l i) h e = h .9 e
+no-command End h e = h .10 e
+
+module _ (p : Parameters) (r : List ℕ) (drawn : Bool) {at : ℕ} (due : Due) (place : at ≡ placeOf p r due) where
+  pub gone : length r ≤ at → 1 ≡ fault p r drawn due
+  unfolding fault
+  gone h = rule-stop _ _ _ (not-below (omega arith))
+
+  module _ (left : at < length r) where
+    not-due : (item r at ≡ code due → ⊥) → 2 ≡ fault p r drawn due
+    unfolding fault
+    not-due n = rule-go _ _ _ (is-below (omega arith)) (rule-stop _ _ _ (not-equal (λ e. n (ap (item r) place ∙ e))))
+
+    -- the due command is of another kind than the byte's
+    pub other-due : {b : ℕ} → item r at ≡ b → OneOf (without b kinds) (tagOf the-type due) → T (not (hasKey (without b kinds) (b - 1))) → 2 ≡ fault p r drawn due
+    other-due {b} byte o h = not-due (λ e. miss (without b kinds) (b - 1) h (subst (OneOf (without b kinds)) (omega (arith, byte, e, code-tag due)) o))
+
+    pub unknown : NoCommand (item r at) → 2 ≡ fault p r drawn due
+    unknown h = not-due (no-command due h)
+
+    module _ {d : Due} (is : due ≡ d) (byte : item r at ≡ code d) where
+      pub cut : length r < at + width d → 1 ≡ fault p r drawn due
+      unfolding fault
+      cut h =
+          rule-go _ _ _ (is-below (omega arith))
+          (rule-go _ _ _ (is-equal (ap (item r) (sym place) ∙ byte ∙ ap code (sym is)))
+          (rule-stop _ _ _ (not-atMost (omega (arith, place, ap width is)))))
+
+      pub whole : {x : ℕ} → at + width d ≤ length r → x ≡ rules p r drawn d → x ≡ fault p r drawn due
+      unfolding fault
+      whole h e =
+          rule-go _ _ _ (is-below (omega arith))
+          (rule-go _ _ _ (is-equal (ap (item r) (sym place) ∙ byte ∙ ap code (sym is)))
+          (rule-go _ _ _ (is-atMost (omega (arith, place, ap width is))) (e ∙ ap (rules p r drawn) (sym is))))

@@ -1,0 +1,169 @@
+// The command reader: each command byte leads to its own rule, and every byte not due is refused.
+ghost use mathlib.Core.Path.{_≡_};
+ghost use Prim.Native.Nat.{_+_, _≤_};
+ghost use lib.ListN.{length};
+ghost use Rattle.protocol.specs.Rules.{placeOf, fault};
+ghost use Rattle.reader.specs.Ready.{Ready};
+use protocol::Due;
+use protocol::Parameters;
+
+// What a command is judged by beside the record: the parameters, whether mask and sides are to be the drawn ones, and how many compared
+// lists come before that of a list half.
+pub struct Context {
+    pub parameters: Parameters,
+    pub drawn: bool,
+    pub rank: usize,
+}
+
+// The number of the first rule that the due command at a place breaks, or 0: no byte left 1, byte not due 2, cut short 1, then its rules.
+// `text` is what mask or sides are drawn from, `marks` tells the taken positions of a link's list.
+pub fn command(
+    bytes: &[u8],
+    at: usize,
+    due: Due,
+    c: Context,
+    text: &[u8; 86],
+    marks: &[bool; 1024],
+) -> u32
+    requires { ⌜ (at ≡ placeOf (c .parameters) (now bytes) due) × Ready (c .parameters) (now bytes) (c .drawn) (c .rank) (now text) (now marks) due ⌝ }
+    ensures { λ k. ⌜ k ≡ fault (c .parameters) (now (bytes .entry)) (c .drawn) due ⌝ }
+{
+    if bytes.len() <= at {
+        return 1;
+    }
+    let left = bytes.len() - at;
+    let p = c.parameters;
+    let b = bytes[at];
+    match b {
+        0x01 => match due {
+            Due::First => {
+                if left < 8 {
+                    return 1;
+                }
+                rules::first_rules(bytes)
+            }
+            _ => 2,
+        },
+        0x02 => match due {
+            Due::Ballot(j) => {
+                if left < 197 {
+                    return 1;
+                }
+                rules::ballot_rules(p, bytes, at, j)
+            }
+            _ => 2,
+        },
+        0x03 => match due {
+            Due::Entry(l, i) => {
+                if left < 196 {
+                    return 1;
+                }
+                rules::entry_rules(p, bytes, at, l, i)
+            }
+            _ => 2,
+        },
+        0x04 => match due {
+            Due::FirstDice => {
+                if left < 35 {
+                    return 1;
+                }
+                rules::first_dice_rules(p, bytes, at, c.drawn, text)
+            }
+            _ => 2,
+        },
+        0x05 => match due {
+            Due::Link(l, j) => {
+                if left < 10 {
+                    return 1;
+                }
+                rules::link_rules(p, bytes, at, l, j, marks)
+            }
+            _ => 2,
+        },
+        0x06 => match due {
+            Due::SecondDice => {
+                if left < 31 {
+                    return 1;
+                }
+                rules::second_dice_rules(p, bytes, at)
+            }
+            _ => 2,
+        },
+        0x07 => match due {
+            Due::BallotHalf(j) => {
+                if left < 112 {
+                    return 1;
+                }
+                openings::ballot_half_rules(p, bytes, at, j, c.drawn, text)
+            }
+            _ => 2,
+        },
+        0x08 => match due {
+            Due::ListHalf(l, j) => {
+                if left < 112 {
+                    return 1;
+                }
+                openings::list_half_rules(p, bytes, at, l, j, c.rank)
+            }
+            _ => 2,
+        },
+        0x09 => match due {
+            Due::Vote(i) => {
+                if left < 7 {
+                    return 1;
+                }
+                rules::vote_rules(p, bytes, at, i)
+            }
+            _ => 2,
+        },
+        0x0A => match due {
+            Due::FullOpening(l, i) => {
+                if left < 220 {
+                    return 1;
+                }
+                openings::full_rules(p, bytes, at, l, i)
+            }
+            _ => 2,
+        },
+        0x0B => match due {
+            Due::End => 0,
+            _ => 2,
+        },
+        0x00 | 0x0C..=0xFF => 2,
+    }
+}
+
+// The lent record and the next command's place.
+pub struct Reader<'a> {
+    pub bytes: &'a [u8],
+    pub at: usize,
+}
+
+// The due command at the reader's place.
+pub fn read<'a, 'b, 'c>(
+    r: Reader<'a>,
+    due: Due,
+    c: Context,
+    text: &'b [u8; 86],
+    marks: &'c [bool; 1024],
+) -> u32
+    requires { ⌜ (r .at ≡ placeOf (c .parameters) (now (r .bytes)) due) × Ready (c .parameters) (now (r .bytes)) (c .drawn) (c .rank) (now text) (now marks) due ⌝ }
+    ensures { λ k. ⌜ k ≡ fault (c .parameters) (now (r .entry .bytes)) (c .drawn) due ⌝ }
+{
+    command(r.bytes, r.at, due, c, text, marks)
+}
+
+// One command through the reader. Its parameters are plain, so whoever calls it needs nothing of the reader's.
+pub fn step(
+    bytes: &[u8],
+    at: usize,
+    due: Due,
+    c: Context,
+    text: &[u8; 86],
+    marks: &[bool; 1024],
+) -> u32
+    requires { ⌜ (at ≡ placeOf (c .parameters) (now bytes) due) × Ready (c .parameters) (now bytes) (c .drawn) (c .rank) (now text) (now marks) due ⌝ }
+    ensures { λ k. ⌜ k ≡ fault (c .parameters) (now (bytes .entry)) (c .drawn) due ⌝ }
+{
+    read(Reader { bytes, at }, due, c, text, marks)
+}
