@@ -1,0 +1,4 @@
+pub mod Limits
+pub mod Marks
+pub mod Contents
+pub mod Endings

@@ -1,0 +1,46 @@
+-- `inputs::in_limits` meets its contract, one limit after the other.
+use native.Mathlib.Omega.{arith}
+use borrow.Author.Needs.{needs}
+use Rattle.laws.specs.Tests.{atMost-is, is-atMost, not-atMost, held, failed, and-go, and-stop}
+use Rattle.protocol.specs.Terms.{inLimits, listsInLimits}
+use Rattle.inputs.proofs.in_limits.Statement.{statement}
+use Rattle.inputs.proofs.in_limits.Tie as tie
+
+modulus-in-limits-requires : tie.Need-modulus-in-limits-requires
+modulus-in-limits-requires c κs = search needs
+
+returns : tie.Need-returns
+unfolding inLimits
+returns c = and-stop _ _ (failed (c .before .modulus-in-limits .ensures) (c .if1 .taken))
+
+ballots-in-limits-requires : tie.Need-ballots-in-limits-requires
+ballots-in-limits-requires c κs = search needs
+
+returns-2 : tie.Need-returns-2
+unfolding inLimits
+returns-2 c =
+    and-go _ _ (held (c .before .before .before .modulus-in-limits .ensures) (c .before .before .if1 .left))
+    (and-stop _ _ (failed (c .before .ballots-in-limits .ensures) (c .if2 .taken)))
+
+returns-3 : tie.Need-returns-3
+unfolding inLimits listsInLimits
+returns-3 c =
+    and-go _ _ (held (c .before .before .before .before .modulus-in-limits .ensures) (c .before .before .before .if1 .left))
+    (and-go _ _ (held (c .before .before .ballots-in-limits .ensures) (c .before .if2 .left)) (and-stop _ _ (not-atMost (omega arith))))
+
+returns-4 : tie.Need-returns-4
+unfolding inLimits listsInLimits
+returns-4 c =
+    and-go _ _ (held (c .before .before .before .before .modulus-in-limits .ensures) (c .before .before .before .if1 .left))
+    (and-go _ _ (held (c .before .before .ballots-in-limits .ensures) (c .before .if2 .left)) (and-go _ _ (is-atMost (omega arith)) (atMost-is _ _)))
+
+pub in-limits-spec : {M : Type 1} → statement M
+in-limits-spec =
+    tie.close
+    (tie.spec
+    modulus-in-limits-requires
+    returns
+    ballots-in-limits-requires
+    returns-2
+    returns-3
+    returns-4)

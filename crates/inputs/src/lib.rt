@@ -1,0 +1,191 @@
+// What the operator's servers refuse of their inputs: tests over whole slices, and the number of the first that fails.
+ghost use mathlib.Core.List.{List};
+ghost use mathlib.Core.Path.{_≡_};
+ghost use Prim.Native.Nat.{ℕ, _+_, _*_, _≤_, _<_};
+ghost use lib.ListN.{length};
+ghost use Rattle.protocol.specs.Terms.{item, mostBallots, allBelow, modulusInLimits, ballotsInLimits, inLimits};
+ghost use Rattle.protocol.specs.Columns.{isPermutation};
+ghost use Rattle.protocol.specs.Inputs.{given, dueLengths};
+ghost use Rattle.inputs.specs.Contents.{rising, binary, permutationsIn, contentsRefusal, ContentsReady};
+
+// Whether a modulus is in its limits.
+pub fn modulus_in_limits(modulus: u32) -> bool
+    ensures { λ r. ⌜ r ≡ modulusInLimits modulus ⌝ }
+{
+    2 <= modulus
+}
+
+// Whether a number of ballots is in its limits.
+pub fn ballots_in_limits(ballots: u32) -> bool
+    ensures { λ r. ⌜ r ≡ ballotsInLimits ballots ⌝ }
+{
+    if ballots < 1 {
+        return false;
+    }
+    ballots <= protocol::MOST_BALLOTS
+}
+
+// Whether M, n and m are in their limits.
+pub fn in_limits(modulus: u32, ballots: u32, compared: u32) -> bool
+    ensures { λ r. ⌜ r ≡ inLimits modulus ballots compared ⌝ }
+{
+    if !modulus_in_limits(modulus) {
+        return false;
+    }
+    if !ballots_in_limits(ballots) {
+        return false;
+    }
+    if compared < 1 {
+        return false;
+    }
+    compared <= 12
+}
+
+// Whether every number of a slice is below a limit.
+pub fn all_below(limit: u32, numbers: &[u32]) -> bool
+    ensures { λ r. ⌜ r ≡ allBelow limit (now (numbers .entry)) ⌝ }
+{
+    let mut i: usize = 0;
+    while i < numbers.len() {
+        if limit <= numbers[i] {
+            return false;
+        }
+        i += 1;
+    }
+    true
+}
+
+// Whether n numbers are the places below n, each once. One mark is set for each.
+pub fn is_permutation(n: usize, permutation: &[u16]) -> bool
+    requires { ⌜ (length (now permutation) ≡ n) × (n ≤ mostBallots) ⌝ }
+    ensures { λ r. ⌜ r ≡ isPermutation n (item (now (permutation .entry))) ⌝ }
+{
+    let mut marks = [false; 1024];
+    let mut i: usize = 0;
+    while i < n {
+        let place = permutation[i] as usize;
+        if n <= place {
+            return false;
+        }
+        if marks[place] {
+            return false;
+        }
+        marks[place] = true;
+        i += 1;
+    }
+    true
+}
+
+// Whether each id is above the one before.
+pub fn ids_rise(ids: &[u32]) -> bool
+    ensures { λ r. ⌜ r ≡ rising (now (ids .entry)) ⌝ }
+{
+    let mut i: usize = 1;
+    while i < ids.len() {
+        if ids[i] <= ids[i - 1] {
+            return false;
+        }
+        i += 1;
+    }
+    true
+}
+
+// Whether every side is 0 or 1.
+pub fn binary_sides(sides: &[u8]) -> bool
+    ensures { λ r. ⌜ r ≡ binary (now (sides .entry)) ⌝ }
+{
+    let mut i: usize = 0;
+    while i < sides.len() {
+        if 1 < sides[i] {
+            return false;
+        }
+        i += 1;
+    }
+    true
+}
+
+// Whether all three permutations of every list are permutations.
+pub fn all_permutations(ballots: usize, lists: usize, permutations: &[u16]) -> bool
+    requires { ⌜ (ballots ≤ mostBallots) × ((lists ≤ 24) × (length (now permutations) ≡ lists * (3 * ballots))) ⌝ }
+    ensures { λ r. ⌜ r ≡ permutationsIn ballots lists (now (permutations .entry)) ⌝ }
+{
+    let mut c: usize = 0;
+    while c < 3 * lists {
+        let from = c * ballots;
+        let to = from + ballots;
+        if !is_permutation(ballots, &permutations[from..to]) {
+            return false;
+        }
+        c += 1;
+    }
+    true
+}
+
+// Whether the slices have their due lengths.
+pub fn due_lengths(
+    ballots: usize,
+    compared: usize,
+    ids: &[u32],
+    votes: &[u32],
+    numbers: &[u32],
+    permutations: &[u16],
+    keys: &[u8],
+) -> bool
+    requires { ⌜ (ballots ≤ mostBallots) × (compared ≤ 12) ⌝ }
+    ensures { λ r. ⌜ ((modulus : ℕ) → r ≡ dueLengths (given modulus ballots compared (now (ids .entry)) (now (votes .entry)) (now (numbers .entry)) (now (permutations .entry)) (now (keys .entry)))) ⌝ }
+{
+    let each = compared * ballots;
+    if ids.len() != ballots {
+        return false;
+    }
+    if votes.len() != ballots {
+        return false;
+    }
+    if numbers.len() != 5 * ballots + 18 * each {
+        return false;
+    }
+    if permutations.len() != 6 * each {
+        return false;
+    }
+    keys.len() == 192 * ballots + 384 * each
+}
+
+// The tests behind those of limits and lengths, in rising number; dice, mask and sides were tested by the caller.
+pub fn refuse_contents(
+    modulus: u32,
+    ballots: usize,
+    compared: usize,
+    ids: &[u32],
+    votes: &[u32],
+    numbers: &[u32],
+    permutations: &[u16],
+    fair: bool,
+    shape: bool,
+    binary: bool,
+) -> u32
+    requires { ⌜ ContentsReady ballots compared (now ids) (now votes) (now permutations) ⌝ }
+    ensures { λ r. ⌜ ((keys : List ℕ) → r ≡ contentsRefusal (given modulus ballots compared (now (ids .entry)) (now (votes .entry)) (now (numbers .entry)) (now (permutations .entry)) keys) fair shape binary) ⌝ }
+{
+    if !ids_rise(ids) {
+        return 5;
+    }
+    if !fair {
+        return 6;
+    }
+    if !shape {
+        return 7;
+    }
+    if !all_below(modulus, votes) {
+        return 10;
+    }
+    if !all_below(modulus, numbers) {
+        return 10;
+    }
+    if !binary {
+        return 11;
+    }
+    if !all_permutations(ballots, 2 * compared, permutations) {
+        return 19;
+    }
+    0
+}
