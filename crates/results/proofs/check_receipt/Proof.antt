@@ -1,0 +1,43 @@
+-- `results::check_receipt` meets its contract: the receipt's length, then the judge's number, then the answer among all ballots.
+use Rattle.verifier.proofs.Stages.{passed-as}
+use Rattle.results.proofs.Answers.{head-whole, ballots-ready, receipt-short, receipt-refused, receipt-answered}
+use borrow.Author.Needs.{needs}
+use Rattle.results.proofs.check_receipt.Statement.{statement}
+use Rattle.results.proofs.check_receipt.Tie as tie
+
+returns : tie.Need-returns
+returns c = receipt-short _ _ (c .if1 .taken)
+
+head-fault-requires : tie.Need-head-fault-requires
+head-fault-requires c κs = search needs
+
+enum-known-k : tie.Need-enum-known-k
+enum-known-k c = search needs
+
+enum-told : tie.Need-enum-told
+enum-told c = search needs
+
+parameters-requires : tie.Need-parameters-requires
+parameters-requires c κs = head-whole _ (passed-as (c .before .before .head-fault .ensures) (c .enum-told .given .1))
+
+receipt-among-requires : tie.Need-receipt-among-requires
+receipt-among-requires c κs = ballots-ready _ _ (passed-as (c .before .before .before .head-fault .ensures) (c .before .enum-told .given .1)) (c .parameters .ensures) (c .before .before .before .before .if1 .left)
+
+returns-2 : tie.Need-returns-2
+returns-2 c = receipt-refused _ _ (c .before .k .given .0 .0) (c .before .before .before .before .if1 .left) (passed-as (c .before .before .before .head-fault .ensures) (c .before .k .given .1))
+
+returns-3 : tie.Need-returns-3
+returns-3 c = receipt-answered _ _ (c .before .before .before .before .before .if1 .left) (passed-as (c .before .before .before .before .head-fault .ensures) (c .before .before .enum-told .given .1)) (c .before .parameters .ensures) (c .receipt-among .ensures)
+
+pub check-receipt-spec : {M : Type 1} → statement M
+check-receipt-spec =
+    tie.close
+    (tie.spec
+    returns
+    head-fault-requires
+    enum-known-k
+    enum-told
+    parameters-requires
+    receipt-among-requires
+    returns-2
+    returns-3)

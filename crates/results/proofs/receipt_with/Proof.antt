@@ -1,0 +1,49 @@
+-- `results::receipt_with` meets its contract: ballot j decides where its id is the printed one.
+use mathlib.Core.Path.{_≡_, sym, ap, _∙_}
+use native.Mathlib.Omega.{arith}
+use borrow.Author.Needs.{needs}
+use Prim.Native.Nat.{ℕ, _+_}
+use Rattle.laws.specs.Bytes.{number}
+use Rattle.laws.specs.Tests.{is-equal, not-equal}
+use Rattle.protocol.specs.Layout.{atBallot}
+use Rattle.protocol.specs.Record.{idOf}
+use Rattle.results.proofs.receipt_with.Statement.{statement}
+use Rattle.results.proofs.receipt_with.Tie as tie
+
+at-ballot-requires : tie.Need-at-ballot-requires
+at-ballot-requires c κs = search needs
+
+add-read4 : tie.Need-add-read4
+add-read4 c = search needs
+
+read4-requires : tie.Need-read4-requires
+unfolding atBallot
+read4-requires c κs = omega (arith, c .at-ballot .ensures .0, c .before .before .before .pre .0 .reaches)
+
+read4-requires-2 : tie.Need-read4-requires-2
+read4-requires-2 c κs = search needs
+
+receipt-at-requires : tie.Need-receipt-at-requires
+receipt-at-requires c κs = search needs
+
+id-read : (c : tie.After-read4) → (let s = c .before .before .before .before in c .read4 .result ≡ idOf (s .args .p) (s .args .bytes .now) (s .args .j))
+unfolding idOf
+id-read c = let s = c .before .before .before .before in c .read4 .ensures .0 ∙ ap (λ (a : ℕ). number (s .args .bytes .now) (a + 1) 4) (c .before .at-ballot .ensures .0)
+
+returns : tie.Need-returns
+returns c = rw (is-equal (sym (id-read (c .before .before .before)) ∙ c .before .if1 .taken ∙ c .before .before .read42 .ensures .0)) (c .receipt-at .ensures)
+
+returns-2 : tie.Need-returns-2
+returns-2 c = rw (not-equal (λ e. c .if1 .left (id-read (c .before .before) ∙ e ∙ sym (c .before .read42 .ensures .0))))
+
+pub receipt-with-spec : {M : Type 1} → statement M
+receipt-with-spec =
+    tie.close
+    (tie.spec
+    at-ballot-requires
+    add-read4
+    read4-requires
+    read4-requires-2
+    receipt-at-requires
+    returns
+    returns-2)
