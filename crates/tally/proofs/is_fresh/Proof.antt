@@ -1,0 +1,41 @@
+-- `tally::is_fresh` meets its contract.
+use mathlib.Core.Path.{refl}
+use borrow.Author.Needs.{needs}
+use native.Mathlib.Omega.{arith}
+use Rattle.laws.specs.Tests.{differ, or-go, or-stop, is-equal, not-equal}
+use Rattle.tally.proofs.is_fresh.Statement.{statement}
+use Rattle.tally.proofs.is_fresh.Tie as tie
+
+returns : tie.Need-returns
+returns c = or-stop _ _ (is-equal (c .if1 .taken))
+
+sub-result : tie.Need-sub-result
+sub-result c = search needs
+
+mul-result : tie.Need-mul-result
+mul-result c = search needs
+
+shared-slice-read-result : tie.Need-shared-slice-read-result
+shared-slice-read-result c = search needs
+
+mul-result-2 : tie.Need-mul-result-2
+mul-result-2 c = search needs
+
+shared-slice-read-result-2 : tie.Need-shared-slice-read-result-2
+shared-slice-read-result-2 c = search needs
+
+returns-2 : tie.Need-returns-2
+unfolding differ
+returns-2 c = or-go _ _ (not-equal (omega arith)) refl
+
+pub is-fresh-spec : {M : Type 1} → statement M
+is-fresh-spec =
+    tie.close
+    (tie.spec
+    returns
+    sub-result
+    mul-result
+    shared-slice-read-result
+    mul-result-2
+    shared-slice-read-result-2
+    returns-2)

@@ -1,0 +1,95 @@
+// The tally: distinct votes, rising, with how often each stands in the slice.
+ghost use mathlib.Core.Path.{_≡_};
+ghost use Prim.Native.Nat.{_+_, _-_, _≤_, _<_};
+ghost use lib.ListN.{length};
+ghost use Rattle.laws.specs.Tests.{equal, differ, _or_};
+ghost use Rattle.laws.specs.Writing.{Went};
+ghost use Rattle.protocol.specs.Terms.{item};
+ghost use Rattle.protocol.specs.Inputs.{afterwards};
+ghost use Rattle.protocol.specs.Results.{distinctVotes, voteCounts, tallyRefusal, tallyOf, inFront, tallyLine};
+ghost use Rattle.tally.specs.Ready.{Ready};
+use protocol::Tally;
+
+// What the tally refuses, by number.
+fn refuse(votes: &[u32], values_len: usize, counts_len: usize) -> u32
+    ensures { λ r. ⌜ r ≡ tallyRefusal (now (votes .entry)) «values_len» «counts_len» ⌝ }
+{
+    if 4294967295 < votes.len() {
+        return 18;
+    }
+    if values_len != votes.len() {
+        return 18;
+    }
+    if counts_len != votes.len() {
+        return 18;
+    }
+    let mut i: usize = 1;
+    while i < votes.len() {
+        if votes[i] < votes[i - 1] {
+            return 15;
+        }
+        i += 1;
+    }
+    0
+}
+
+// Whether a vote is the first of its number.
+fn is_fresh(votes: &[u32], i: usize) -> bool
+    requires { ⌜ i < length (now votes) ⌝ }
+    ensures { λ r. ⌜ r ≡ (equal i 0 or differ (item (now (votes .entry)) (i - 1)) (item (now (votes .entry)) i)) ⌝ }
+{
+    if i == 0 {
+        return true;
+    }
+    votes[i - 1] != votes[i]
+}
+
+// Writes each distinct vote and how often it stands, and answers how many there are. Equal votes stand side by side.
+fn fill(votes: &[u32], values: &mut [u32], counts: &mut [u32]) -> usize
+    requires { ⌜ Ready (now votes) (length (now values)) (length (now counts)) ⌝ }
+    ensures values { λ _. ⌜ now (values .exit) ≡ inFront (distinctVotes (now (votes .entry))) (now (values .entry)) ⌝ }
+    ensures counts { λ _. ⌜ now (counts .exit) ≡ inFront (voteCounts (now (votes .entry))) (now (counts .entry)) ⌝ }
+    ensures answer { λ r. ⌜ r ≡ length (distinctVotes (now (votes .entry))) ⌝ }
+{
+    let mut pairs: usize = 0;
+    let mut i: usize = 0;
+    while i < votes.len() {
+        if is_fresh(votes, i) {
+            values[pairs] = votes[i];
+            counts[pairs] = 1;
+            pairs += 1;
+            i += 1;
+        } else {
+            let last = pairs - 1;
+            counts[last] = counts[last] + 1;
+            i += 1;
+        }
+    }
+    pairs
+}
+
+// Entry: the tally of votes that do not fall, into two lent slices of the votes' length. What lies behind the last pair is unchanged.
+// With 2^32 votes or more a count might not be a number of 4 bytes.
+pub fn tally(votes: &[u32], values: &mut [u32], counts: &mut [u32]) -> Tally
+    ensures answer { λ r. ⌜ r ≡ tallyOf (now (votes .entry)) (tallyRefusal (now (votes .entry)) (length (now (values .entry))) (length (now (counts .entry)))) ⌝ }
+    ensures values { λ _. ⌜ now (values .exit) ≡ afterwards (tallyRefusal (now (votes .entry)) (length (now (values .entry))) (length (now (counts .entry)))) (now (values .entry)) (inFront (distinctVotes (now (votes .entry))) (now (values .entry))) ⌝ }
+    ensures counts { λ _. ⌜ now (counts .exit) ≡ afterwards (tallyRefusal (now (votes .entry)) (length (now (values .entry))) (length (now (counts .entry)))) (now (counts .entry)) (inFront (voteCounts (now (votes .entry))) (now (counts .entry))) ⌝ }
+{
+    let k = refuse(votes, values.len(), counts.len());
+    if k != 0 {
+        return Tally::Refused(k);
+    }
+    let pairs = fill(votes, values, counts);
+    Tally::Pairs(pairs)
+}
+
+// Writes the line of a vote, one space, and how often it was announced from a place on, and answers the next place: at most 22 bytes.
+pub fn put_line(out: &mut [u8], at: usize, vote: u32, count: u32) -> usize
+    requires { ⌜ at + 22 ≤ length (now out) ⌝ }
+    ensures { λ r. ⌜ Went (now (out .entry)) at (tallyLine vote count) (now (out .exit)) r ⌝ }
+{
+    let space = challenge::put_decimal(out, at, vote);
+    let second = wire::put1(out, space, 32);
+    let end = challenge::put_decimal(out, second, count);
+    wire::put1(out, end, 10)
+}
