@@ -1,0 +1,181 @@
+// The servers of one column: a row server's work, row three's offsets, and the split behind the third column. A row server is lent its
+// own row, its offsets and the permutation only.
+ghost use mathlib.Core.Path.{_≡_};
+ghost use Prim.Native.Nat.{_+_, _*_, _≤_, _<_};
+ghost use lib.ListN.{length};
+ghost use Rattle.laws.specs.Tables.{tabulate};
+ghost use Rattle.protocol.specs.Terms.{item, allBelow};
+ghost use Rattle.protocol.specs.Columns.{rowServer, thirdOffsets, secondHalves, rowRefusal, pairRefusal};
+ghost use Rattle.protocol.specs.Inputs.{writtenOf, afterwards};
+ghost use Rattle.mixnet.specs.Ready.{RowReady, PairReady};
+use protocol::Written;
+
+// Adds the offsets to a row and takes place i from place perm(i).
+pub fn mix_row(modulus: u32, numbers: &[u32], offsets: &[u32], permutation: &[u16], out: &mut [u32])
+    requires { ⌜ RowReady modulus (now numbers) (now offsets) (now permutation) (length (now out)) ⌝ }
+    ensures { λ _. ⌜ now (out .exit) ≡ rowServer modulus (now (numbers .entry)) (now (offsets .entry)) (now (permutation .entry)) ⌝ }
+{
+    let n = numbers.len();
+    let mut i: usize = 0;
+    while i < n {
+        let from = permutation[i] as usize;
+        out[i] = modular::plus(modulus, numbers[from], offsets[from]);
+        i += 1;
+    }
+}
+
+// Row three's offset at each place: with those of rows one and two it makes 0.
+pub fn third_row(modulus: u32, first: &[u32], second: &[u32], out: &mut [u32])
+    requires { ⌜ PairReady modulus (now first) (now second) (length (now out)) ⌝ }
+    ensures { λ _. ⌜ now (out .exit) ≡ thirdOffsets modulus (now (first .entry)) (now (second .entry)) ⌝ }
+{
+    let n = first.len();
+    let mut i: usize = 0;
+    while i < n {
+        let less = modular::minus(modulus, 0, first[i]);
+        out[i] = modular::minus(modulus, less, second[i]);
+        i += 1;
+    }
+}
+
+// The second halves of a row: each number less its first half.
+pub fn split_row(modulus: u32, numbers: &[u32], first_halves: &[u32], out: &mut [u32])
+    requires { ⌜ PairReady modulus (now numbers) (now «first_halves») (length (now out)) ⌝ }
+    ensures { λ _. ⌜ now (out .exit) ≡ secondHalves modulus (now (numbers .entry)) (now («first_halves» .entry)) ⌝ }
+{
+    let n = numbers.len();
+    let mut i: usize = 0;
+    while i < n {
+        out[i] = modular::minus(modulus, numbers[i], first_halves[i]);
+        i += 1;
+    }
+}
+
+// What a row server refuses, by number.
+fn refuse_row(
+    modulus: u32,
+    n: u32,
+    numbers: &[u32],
+    offsets: &[u32],
+    permutation: &[u16],
+    out_len: usize,
+) -> u32
+    ensures { λ r. ⌜ r ≡ rowRefusal modulus n (now (numbers .entry)) (now (offsets .entry)) (now (permutation .entry)) «out_len» ⌝ }
+{
+    if !inputs::modulus_in_limits(modulus) {
+        return 3;
+    }
+    if !inputs::ballots_in_limits(n) {
+        return 3;
+    }
+    let due = n as usize;
+    if numbers.len() != due {
+        return 18;
+    }
+    if offsets.len() != due {
+        return 18;
+    }
+    if permutation.len() != due {
+        return 18;
+    }
+    if out_len != due {
+        return 18;
+    }
+    if !inputs::all_below(modulus, numbers) {
+        return 10;
+    }
+    if !inputs::all_below(modulus, offsets) {
+        return 10;
+    }
+    if !inputs::is_permutation(due, permutation) {
+        return 19;
+    }
+    0
+}
+
+// What the other two refuse, by number.
+fn refuse_pair(modulus: u32, n: u32, first: &[u32], second: &[u32], out_len: usize) -> u32
+    ensures { λ r. ⌜ r ≡ pairRefusal modulus n (now (first .entry)) (now (second .entry)) «out_len» ⌝ }
+{
+    if !inputs::modulus_in_limits(modulus) {
+        return 3;
+    }
+    if !inputs::ballots_in_limits(n) {
+        return 3;
+    }
+    let due = n as usize;
+    if first.len() != due {
+        return 18;
+    }
+    if second.len() != due {
+        return 18;
+    }
+    if out_len != due {
+        return 18;
+    }
+    if !inputs::all_below(modulus, first) {
+        return 10;
+    }
+    if !inputs::all_below(modulus, second) {
+        return 10;
+    }
+    0
+}
+
+// Entry: a row server's column.
+pub fn row_server(
+    modulus: u32,
+    n: u32,
+    numbers: &[u32],
+    offsets: &[u32],
+    permutation: &[u16],
+    out: &mut [u32],
+) -> Written
+    ensures answer { λ r. ⌜ r ≡ writtenOf (rowRefusal modulus n (now (numbers .entry)) (now (offsets .entry)) (now (permutation .entry)) (length (now (out .entry)))) ⌝ }
+    ensures output { λ _. ⌜ now (out .exit) ≡ afterwards (rowRefusal modulus n (now (numbers .entry)) (now (offsets .entry)) (now (permutation .entry)) (length (now (out .entry)))) (now (out .entry)) (rowServer modulus (now (numbers .entry)) (now (offsets .entry)) (now (permutation .entry))) ⌝ }
+{
+    let k = refuse_row(modulus, n, numbers, offsets, permutation, out.len());
+    if k != 0 {
+        return Written::Refused(k);
+    }
+    mix_row(modulus, numbers, offsets, permutation, out);
+    Written::Done
+}
+
+// Entry: row three's offsets from those of rows one and two.
+pub fn third_row_offsets(
+    modulus: u32,
+    n: u32,
+    first: &[u32],
+    second: &[u32],
+    out: &mut [u32],
+) -> Written
+    ensures answer { λ r. ⌜ r ≡ writtenOf (pairRefusal modulus n (now (first .entry)) (now (second .entry)) (length (now (out .entry)))) ⌝ }
+    ensures output { λ _. ⌜ now (out .exit) ≡ afterwards (pairRefusal modulus n (now (first .entry)) (now (second .entry)) (length (now (out .entry)))) (now (out .entry)) (thirdOffsets modulus (now (first .entry)) (now (second .entry))) ⌝ }
+{
+    let k = refuse_pair(modulus, n, first, second, out.len());
+    if k != 0 {
+        return Written::Refused(k);
+    }
+    third_row(modulus, first, second, out);
+    Written::Done
+}
+
+// Entry: the split of a row with given first halves.
+pub fn split(
+    modulus: u32,
+    n: u32,
+    numbers: &[u32],
+    first_halves: &[u32],
+    out: &mut [u32],
+) -> Written
+    ensures answer { λ r. ⌜ r ≡ writtenOf (pairRefusal modulus n (now (numbers .entry)) (now («first_halves» .entry)) (length (now (out .entry)))) ⌝ }
+    ensures output { λ _. ⌜ now (out .exit) ≡ afterwards (pairRefusal modulus n (now (numbers .entry)) (now («first_halves» .entry)) (length (now (out .entry)))) (now (out .entry)) (secondHalves modulus (now (numbers .entry)) (now («first_halves» .entry))) ⌝ }
+{
+    let k = refuse_pair(modulus, n, numbers, first_halves, out.len());
+    if k != 0 {
+        return Written::Refused(k);
+    }
+    split_row(modulus, numbers, first_halves, out);
+    Written::Done
+}
