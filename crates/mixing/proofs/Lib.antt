@@ -1,0 +1,4 @@
+pub mod Filling
+pub mod Columns
+pub mod Positions
+pub mod Agreement
