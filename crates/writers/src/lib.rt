@@ -1,0 +1,214 @@
+// Writers of single commands. Each writes its command's bytes from a place of a lent buffer on, and answers the next place.
+ghost use mathlib.Core.Path.{_≡_};
+ghost use mathlib.Core.List.{[], _∷_, _++_};
+ghost use Prim.Native.Nat.{ℕ, _+_, _*_, _≤_, _<_};
+ghost use lib.ListN.{length};
+ghost use Rattle.laws.specs.Bytes.{bytes};
+ghost use Rattle.laws.specs.Chunks.{chunks};
+ghost use Rattle.laws.specs.Writing.{Went};
+ghost use Rattle.protocol.specs.Terms.{Place, inBallot, inEntry, commitment};
+ghost use Rattle.protocol.specs.Tablet.{ballotCommand};
+ghost use Rattle.protocol.specs.Record.{firstCommand, entryCommand, firstDiceCommand, linkCommand, secondDiceCommand, ballotHalfCommand, listHalfCommand, voteCommand, fullCommand};
+ghost use Rattle.writers.specs.Splits.{slotNumber, slotOpening, SplitReady};
+use protocol::Parameters;
+
+// Three numbers and the first halves that split them: what a ballot or a list entry commits.
+pub struct Split {
+    pub modulus: u32,
+    pub value: [u32; 3],
+    pub first: [u32; 3],
+}
+
+// The number in slot q of u1, v1, u2, v2, u3, v3.
+pub fn slot(s: Split, q: usize) -> u32
+    requires { ⌜ SplitReady s × (q < 6) ⌝ }
+    ensures { λ r. ⌜ (r ≡ slotNumber s q) × (r < s .modulus) ⌝ }
+{
+    let k = q / 2;
+    let first = s.first[k];
+    if q % 2 == 0 {
+        return first;
+    }
+    modular::minus(s.modulus, s.value[k], first)
+}
+
+// The six commitments of a split with its six keys.
+pub fn put_six_commitments(out: &mut [u8], at: usize, s: Split, keys: &[u8]) -> usize
+    requires { ⌜ SplitReady s × ((length (now keys) ≡ 192) × (at + 192 ≤ length (now out))) ⌝ }
+    ensures { λ r. ⌜ ((place : ℕ → Place) → Went (now (out .entry)) at (chunks (λ q. commitment (place q) (slotOpening s (now (keys .entry)) q)) 6) (now (out .exit)) r) ⌝ }
+{
+    let mut next = at;
+    let mut q: usize = 0;
+    while q < 6 {
+        let from = 32 * q;
+        let to = from + 32;
+        next = commitment::put_commitment(out, next, &keys[from..to], slot(s, q));
+        q += 1;
+    }
+    next
+}
+
+// The openings of `count` slots: the first is `from`, and each next one is `step` further on.
+fn put_openings(
+    out: &mut [u8],
+    at: usize,
+    from: usize,
+    step: usize,
+    count: usize,
+    s: Split,
+    keys: &[u8],
+) -> usize
+    requires { ⌜ SplitReady s × ((length (now keys) ≡ 192) × ((at + count * 36 ≤ length (now out)) × ((k : ℕ) → k < count → step * k + from < 6))) ⌝ }
+    ensures { λ r. ⌜ Went (now (out .entry)) at (chunks (λ k. slotOpening s (now (keys .entry)) (step * k + from)) count) (now (out .exit)) r ⌝ }
+{
+    let mut next = at;
+    let mut k: usize = 0;
+    while k < count {
+        let q = step * k + from;
+        let start = 32 * q;
+        let end = start + 32;
+        next = commitment::put_opening(out, next, &keys[start..end], slot(s, q));
+        k += 1;
+    }
+    next
+}
+
+// All six openings of a split.
+pub fn put_six_openings(out: &mut [u8], at: usize, s: Split, keys: &[u8]) -> usize
+    requires { ⌜ SplitReady s × ((length (now keys) ≡ 192) × (at + 216 ≤ length (now out))) ⌝ }
+    ensures { λ r. ⌜ Went (now (out .entry)) at (chunks (slotOpening s (now (keys .entry))) 6) (now (out .exit)) r ⌝ }
+{
+    put_openings(out, at, 0, 1, 6, s, keys)
+}
+
+// The three openings of one side of a split.
+pub fn put_three_openings(out: &mut [u8], at: usize, side: usize, s: Split, keys: &[u8]) -> usize
+    requires { ⌜ SplitReady s × ((side ≤ 1) × ((length (now keys) ≡ 192) × (at + 108 ≤ length (now out)))) ⌝ }
+    ensures { λ r. ⌜ Went (now (out .entry)) at (chunks (λ k. slotOpening s (now (keys .entry)) (2 * k + side)) 3) (now (out .exit)) r ⌝ }
+{
+    put_openings(out, at, side, 2, 3, s, keys)
+}
+
+// The beginning of a command that names a list: its code, the list, and a position or a ballot.
+fn put_head(out: &mut [u8], at: usize, code: u32, l: u32, i: u32) -> usize
+    requires { ⌜ (code < 256) × (at + 4 ≤ length (now out)) ⌝ }
+    ensures { λ r. ⌜ Went (now (out .entry)) at ((code ∷ bytes 1 l) ++ bytes 2 i) (now (out .exit)) r ⌝ }
+{
+    let a = wire::put1(out, at, code);
+    let b = wire::put1(out, a, l);
+    wire::put2(out, b, i)
+}
+
+// 01: the parameters.
+pub fn put_first(out: &mut [u8], at: usize, p: Parameters) -> usize
+    requires { ⌜ (p .ballots < 65536) × ((p .compared < 256) × (at + 8 ≤ length (now out))) ⌝ }
+    ensures { λ r. ⌜ Went (now (out .entry)) at (firstCommand p) (now (out .exit)) r ⌝ }
+{
+    let a = wire::put1(out, at, 1);
+    let b = wire::put4(out, a, p.modulus);
+    let c = wire::put2(out, b, p.ballots as u32);
+    wire::put1(out, c, p.compared as u32)
+}
+
+// 02: a ballot.
+pub fn put_ballot(out: &mut [u8], at: usize, id: u32, s: Split, keys: &[u8]) -> usize
+    requires { ⌜ SplitReady s × ((length (now keys) ≡ 192) × (at + 197 ≤ length (now out))) ⌝ }
+    ensures { λ r. ⌜ Went (now (out .entry)) at (ballotCommand id (λ q. commitment (inBallot id q) (slotOpening s (now (keys .entry)) q))) (now (out .exit)) r ⌝ }
+{
+    let a = wire::put1(out, at, 2);
+    let b = wire::put4(out, a, id);
+    put_six_commitments(out, b, s, keys)
+}
+
+// 03: a list entry.
+pub fn put_entry(out: &mut [u8], at: usize, l: u32, i: u32, s: Split, keys: &[u8]) -> usize
+    requires { ⌜ SplitReady s × ((length (now keys) ≡ 192) × (at + 196 ≤ length (now out))) ⌝ }
+    ensures { λ r. ⌜ Went (now (out .entry)) at (entryCommand l i (λ q. commitment (inEntry l i q) (slotOpening s (now (keys .entry)) q))) (now (out .exit)) r ⌝ }
+{
+    let a = put_head(out, at, 3, l, i);
+    put_six_commitments(out, a, s, keys)
+}
+
+// 04: the first dice and the mask.
+pub fn put_first_dice(out: &mut [u8], at: usize, dice: &[u8], mask: u32) -> usize
+    requires { ⌜ (length (now dice) ≡ 30) × (at + 35 ≤ length (now out)) ⌝ }
+    ensures { λ r. ⌜ Went (now (out .entry)) at (firstDiceCommand (now (dice .entry)) mask) (now (out .exit)) r ⌝ }
+{
+    let a = wire::put1(out, at, 4);
+    let b = wire::copy(out, a, dice);
+    wire::put4(out, b, mask)
+}
+
+// 05: a link.
+pub fn put_link(out: &mut [u8], at: usize, l: u32, j: u32, position: u32, t: u32) -> usize
+    requires { ⌜ at + 10 ≤ length (now out) ⌝ }
+    ensures { λ r. ⌜ Went (now (out .entry)) at (linkCommand l j position t) (now (out .exit)) r ⌝ }
+{
+    let a = put_head(out, at, 5, l, j);
+    let b = wire::put2(out, a, position);
+    wire::put4(out, b, t)
+}
+
+// 06: the second dice.
+pub fn put_second_dice(out: &mut [u8], at: usize, dice: &[u8]) -> usize
+    requires { ⌜ (length (now dice) ≡ 30) × (at + 31 ≤ length (now out)) ⌝ }
+    ensures { λ r. ⌜ Went (now (out .entry)) at (secondDiceCommand (now (dice .entry))) (now (out .exit)) r ⌝ }
+{
+    let a = wire::put1(out, at, 6);
+    wire::copy(out, a, dice)
+}
+
+// 07: a ballot's half.
+pub fn put_ballot_half(out: &mut [u8], at: usize, j: u32, side: u32, s: Split, keys: &[u8]) -> usize
+    requires { ⌜ SplitReady s × ((side ≤ 1) × ((length (now keys) ≡ 192) × (at + 112 ≤ length (now out)))) ⌝ }
+    ensures { λ r. ⌜ Went (now (out .entry)) at (ballotHalfCommand j side (λ k. slotOpening s (now (keys .entry)) (2 * k + side))) (now (out .exit)) r ⌝ }
+{
+    let a = wire::put1(out, at, 7);
+    let b = wire::put2(out, a, j);
+    let c = wire::put1(out, b, side);
+    put_three_openings(out, c, side as usize, s, keys)
+}
+
+// 08: the half of a linked entry.
+pub fn put_list_half(
+    out: &mut [u8],
+    at: usize,
+    l: u32,
+    position: u32,
+    side: u32,
+    s: Split,
+    keys: &[u8],
+) -> usize
+    requires { ⌜ SplitReady s × ((side ≤ 1) × ((length (now keys) ≡ 192) × (at + 112 ≤ length (now out)))) ⌝ }
+    ensures { λ r. ⌜ Went (now (out .entry)) at (listHalfCommand l position (λ k. slotOpening s (now (keys .entry)) (2 * k + side))) (now (out .exit)) r ⌝ }
+{
+    let a = put_head(out, at, 8, l, position);
+    put_three_openings(out, a, side as usize, s, keys)
+}
+
+// 09: an announced vote.
+pub fn put_vote(out: &mut [u8], at: usize, i: u32, vote: u32) -> usize
+    requires { ⌜ at + 7 ≤ length (now out) ⌝ }
+    ensures { λ r. ⌜ Went (now (out .entry)) at (voteCommand i vote) (now (out .exit)) r ⌝ }
+{
+    let a = wire::put1(out, at, 9);
+    let b = wire::put2(out, a, i);
+    wire::put4(out, b, vote)
+}
+
+// 0A: a full opening.
+pub fn put_full(out: &mut [u8], at: usize, l: u32, i: u32, s: Split, keys: &[u8]) -> usize
+    requires { ⌜ SplitReady s × ((length (now keys) ≡ 192) × (at + 220 ≤ length (now out))) ⌝ }
+    ensures { λ r. ⌜ Went (now (out .entry)) at (fullCommand l i (slotOpening s (now (keys .entry)))) (now (out .exit)) r ⌝ }
+{
+    let a = put_head(out, at, 10, l, i);
+    put_six_openings(out, a, s, keys)
+}
+
+// 0B: the end.
+pub fn put_end(out: &mut [u8], at: usize) -> usize
+    requires { ⌜ at + 1 ≤ length (now out) ⌝ }
+    ensures { λ r. ⌜ Went (now (out .entry)) at (11 ∷ []) (now (out .exit)) r ⌝ }
+{
+    wire::put1(out, at, 11)
+}
