@@ -1,0 +1,2 @@
+pub mod Ballot
+pub mod Unrefused
