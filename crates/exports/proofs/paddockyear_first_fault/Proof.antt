@@ -1,0 +1,34 @@
+-- `exports::paddockyear_first_fault` meets its contract, case by case.
+use mathlib.Core.Path.{_≡_, sym, ap, _∙_}
+use Prim.Native.Nat.{ℕ}
+use borrow.Author.Needs.{needs}
+use Rattle.laws.specs.declared.Found.{Found}
+use Rattle.laws.specs.Tests.{differ}
+use Rattle.laws.specs.Faults.{numberOf}
+use Rattle.exports.specs.Codes.{placeIn}
+use Rattle.exports.proofs.paddockyear_first_fault.Statement.{statement}
+use Rattle.exports.proofs.paddockyear_first_fault.Tie as tie
+
+first-fault-requires : tie.Need-first-fault-requires
+first-fault-requires c κs = search needs
+
+enum-told : tie.Need-enum-told
+enum-told c = search needs
+
+enum-known-k : tie.Need-enum-known-k
+enum-known-k c = search needs
+
+returns : tie.Need-returns
+unfolding differ numberOf placeIn
+returns c =
+    let e = sym (c .before .before .first-fault .ensures) ∙ c .enum-told .given .1 in
+    (sym (ap numberOf e), sym (ap (λ (f : Found). placeIn f (c .before .before .before .before .args .place .now)) e))
+
+returns-2 : tie.Need-returns-2
+unfolding differ numberOf placeIn
+returns-2 c =
+    let e = sym (c .before .before .before .first-fault .ensures) ∙ c .before .k .given .1 in
+    (sym (ap numberOf e), sym (ap (λ (f : Found). placeIn f (c .before .before .before .before .before .args .place .now)) e))
+
+pub paddockyear-first-fault-spec : {M : Type 1} → statement M
+paddockyear-first-fault-spec = tie.close (tie.spec first-fault-requires enum-told enum-known-k returns returns-2)

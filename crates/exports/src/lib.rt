@@ -1,0 +1,251 @@
+// The functions that C and Rust programs link, each a thin face of a proved one. A slice is a pointer and a length.
+ghost use mathlib.Core.Bool.{true, false};
+ghost use mathlib.Core.Path.{_≡_};
+ghost use mathlib.Core.List.{_++_};
+ghost use Prim.Native.Nat.{_≤_};
+ghost use lib.ListN.{length};
+ghost use Rattle.laws.specs.Faults.{numberOf};
+ghost use Rattle.laws.specs.Tests.{differ, choose};
+ghost use Rattle.keccak.specs.Keccak.{keccakF};
+ghost use Rattle.sha3.specs.Sha3.{Rate, digest, sha3-224, sha3-256};
+ghost use Rattle.protocol.specs.Tablet as tablets;
+ghost use Rattle.protocol.specs.Tablet.{tabletCommand, tabletRefusal};
+ghost use Rattle.protocol.specs.Columns.{rowServer, thirdOffsets, secondHalves, rowRefusal, pairRefusal};
+ghost use Rattle.protocol.specs.Inputs.{afterwards};
+ghost use Rattle.protocol.specs.Judging.{firstFault};
+ghost use Rattle.protocol.specs.Results.{receiptChecked, announcedVotes, announcedRefusal, distinctVotes, voteCounts, tallyRefusal, inFront};
+ghost use Rattle.exports.specs.Codes.{writtenCode, receiptCode, placeIn};
+use laws::Found;
+use protocol::Receipt;
+use protocol::Tally;
+use protocol::Written;
+
+// Keccak-f[1600], in place.
+#[no_mangle]
+pub extern "C" fn paddockyear_keccak_f(lanes: &mut [u64; 25])
+    ensures { λ _. ⌜ now (lanes .exit) ≡ keccakF (now (lanes .entry)) ⌝ }
+{
+    let a = *lanes;
+    let b = keccak::permute(a);
+    *lanes = b;
+}
+
+// SHA3-224 of m.
+#[no_mangle]
+pub extern "C" fn paddockyear_sha3_224(m: &[u8], out: &mut [u8; 28])
+    ensures { λ _. ⌜ now (out .exit) ≡ sha3-224 (now (m .entry)) ⌝ }
+{
+    sha3::sha3_224(m, out);
+}
+
+// SHA3-256 of m.
+#[no_mangle]
+pub extern "C" fn paddockyear_sha3_256(m: &[u8], out: &mut [u8; 32])
+    ensures { λ _. ⌜ now (out .exit) ≡ sha3-256 (now (m .entry)) ⌝ }
+{
+    sha3::sha3_256(m, out);
+}
+
+// The digest, as long as `out`, of a message in three parts.
+fn hash_parts(rate: usize, a: &[u8], b: &[u8], c: &[u8], out: &mut [u8])
+    requires { ⌜ Rate rate × (length (now out) ≤ rate) ⌝ }
+    ensures { λ _. ⌜ now (out .exit) ≡ digest rate (length (now (out .entry))) (now (a .entry) ++ (now (b .entry) ++ now (c .entry))) ⌝ }
+{
+    let s = sha3::start();
+    let t = sha3::absorb(s, rate, a);
+    let u = sha3::absorb(t, rate, b);
+    let v = sha3::absorb(u, rate, c);
+    sha3::finish(v, rate, out);
+}
+
+// SHA3-224 of a message in three parts.
+#[no_mangle]
+pub extern "C" fn paddockyear_sha3_224_parts(a: &[u8], b: &[u8], c: &[u8], out: &mut [u8; 28])
+    ensures { λ _. ⌜ now (out .exit) ≡ sha3-224 (now (a .entry) ++ (now (b .entry) ++ now (c .entry))) ⌝ }
+{
+    hash_parts(144, a, b, c, out);
+}
+
+// SHA3-256 of a message in three parts.
+#[no_mangle]
+pub extern "C" fn paddockyear_sha3_256_parts(a: &[u8], b: &[u8], c: &[u8], out: &mut [u8; 32])
+    ensures { λ _. ⌜ now (out .exit) ≡ sha3-256 (now (a .entry) ++ (now (b .entry) ++ now (c .entry))) ⌝ }
+{
+    hash_parts(136, a, b, c, out);
+}
+
+// ---- tablet and mix servers
+
+// A writer's answer: 0, or the refusal's number.
+fn written_code(w: Written) -> u32
+    ensures { λ r. ⌜ r ≡ writtenCode w ⌝ }
+{
+    match w {
+        Written::Done => 0,
+        Written::Refused(k) => k,
+    }
+}
+
+// A vote's ballot command and receipt.
+#[no_mangle]
+pub extern "C" fn paddockyear_tablet(
+    modulus: u32,
+    id: u32,
+    vote: u32,
+    x: u32,
+    y: u32,
+    u1: u32,
+    u2: u32,
+    u3: u32,
+    keys: &[u8],
+    command: &mut [u8],
+    receipt: &mut [u8],
+) -> u32
+    ensures answer { λ r. ⌜ r ≡ tabletRefusal modulus vote x y u1 u2 u3 (length (now (keys .entry))) (length (now (command .entry))) (length (now (receipt .entry))) ⌝ }
+    ensures command { λ _. ⌜ now (command .exit) ≡ afterwards (tabletRefusal modulus vote x y u1 u2 u3 (length (now (keys .entry))) (length (now (command .entry))) (length (now (receipt .entry)))) (now (command .entry)) (tabletCommand modulus id vote x y u1 u2 u3 (now (keys .entry))) ⌝ }
+    ensures receipt { λ _. ⌜ now (receipt .exit) ≡ afterwards (tabletRefusal modulus vote x y u1 u2 u3 (length (now (keys .entry))) (length (now (command .entry))) (length (now (receipt .entry)))) (now (receipt .entry)) (tablets.receipt id (tabletCommand modulus id vote x y u1 u2 u3 (now (keys .entry)))) ⌝ }
+{
+    written_code(tablet::cast(modulus, id, vote, x, y, u1, u2, u3, keys, command, receipt))
+}
+
+// A row server's column.
+#[no_mangle]
+pub extern "C" fn paddockyear_row_server(
+    modulus: u32,
+    n: u32,
+    numbers: &[u32],
+    offsets: &[u32],
+    permutation: &[u16],
+    out: &mut [u32],
+) -> u32
+    ensures answer { λ r. ⌜ r ≡ rowRefusal modulus n (now (numbers .entry)) (now (offsets .entry)) (now (permutation .entry)) (length (now (out .entry))) ⌝ }
+    ensures output { λ _. ⌜ now (out .exit) ≡ afterwards (rowRefusal modulus n (now (numbers .entry)) (now (offsets .entry)) (now (permutation .entry)) (length (now (out .entry)))) (now (out .entry)) (rowServer modulus (now (numbers .entry)) (now (offsets .entry)) (now (permutation .entry))) ⌝ }
+{
+    written_code(mixnet::row_server(modulus, n, numbers, offsets, permutation, out))
+}
+
+// Row three's offsets.
+#[no_mangle]
+pub extern "C" fn paddockyear_third_row_offsets(
+    modulus: u32,
+    n: u32,
+    first: &[u32],
+    second: &[u32],
+    out: &mut [u32],
+) -> u32
+    ensures answer { λ r. ⌜ r ≡ pairRefusal modulus n (now (first .entry)) (now (second .entry)) (length (now (out .entry))) ⌝ }
+    ensures output { λ _. ⌜ now (out .exit) ≡ afterwards (pairRefusal modulus n (now (first .entry)) (now (second .entry)) (length (now (out .entry)))) (now (out .entry)) (thirdOffsets modulus (now (first .entry)) (now (second .entry))) ⌝ }
+{
+    written_code(mixnet::third_row_offsets(modulus, n, first, second, out))
+}
+
+// The split of a row.
+#[no_mangle]
+pub extern "C" fn paddockyear_split(
+    modulus: u32,
+    n: u32,
+    numbers: &[u32],
+    first_halves: &[u32],
+    out: &mut [u32],
+) -> u32
+    ensures answer { λ r. ⌜ r ≡ pairRefusal modulus n (now (numbers .entry)) (now («first_halves» .entry)) (length (now (out .entry))) ⌝ }
+    ensures output { λ _. ⌜ now (out .exit) ≡ afterwards (pairRefusal modulus n (now (numbers .entry)) (now («first_halves» .entry)) (length (now (out .entry)))) (now (out .entry)) (secondHalves modulus (now (numbers .entry)) (now («first_halves» .entry))) ⌝ }
+{
+    written_code(mixnet::split(modulus, n, numbers, first_halves, out))
+}
+
+// ---- the verifier
+
+// The number of a fault, 0 for none.
+fn number_of(f: Found) -> u32
+    ensures { λ r. ⌜ r ≡ numberOf f ⌝ }
+{
+    match f {
+        Found::Nothing => 0,
+        Found::Fault(k, _) => k,
+    }
+}
+
+// Plain judging: 0 for accepted, else the number of the first rule broken.
+#[no_mangle]
+pub extern "C" fn paddockyear_judge_plainly(bytes: &[u8]) -> u32
+    ensures { λ r. ⌜ r ≡ numberOf (firstFault false (now (bytes .entry))) ⌝ }
+{
+    number_of(verifier::first_fault(bytes, false))
+}
+
+// Drawn judging, answered in the same way.
+#[no_mangle]
+pub extern "C" fn paddockyear_judge_as_drawn(bytes: &[u8]) -> u32
+    ensures { λ r. ⌜ r ≡ numberOf (firstFault true (now (bytes .entry))) ⌝ }
+{
+    number_of(verifier::first_fault(bytes, true))
+}
+
+// The first fault's number, and the place where its command starts; `place` is as it was where there is no fault. `drawn` is 0 for plain
+// judging.
+#[no_mangle]
+pub extern "C" fn paddockyear_first_fault(bytes: &[u8], drawn: u32, place: &mut u64) -> u32
+    ensures number { λ r. ⌜ r ≡ numberOf (firstFault (differ drawn 0) (now (bytes .entry))) ⌝ }
+    ensures place { λ _. ⌜ now (place .exit) ≡ placeIn (firstFault (differ drawn 0) (now (bytes .entry))) (now (place .entry)) ⌝ }
+{
+    match verifier::first_fault(bytes, drawn != 0) {
+        Found::Nothing => 0,
+        Found::Fault(k, at) => {
+            *place = at as u64;
+            k
+        }
+    }
+}
+
+// The tally of votes that do not fall; `pairs` is how many pairs were written, and as it was on a refusal.
+#[no_mangle]
+pub extern "C" fn paddockyear_tally(
+    votes: &[u32],
+    values: &mut [u32],
+    counts: &mut [u32],
+    pairs: &mut u64,
+) -> u32
+    ensures answer { λ r. ⌜ r ≡ tallyRefusal (now (votes .entry)) (length (now (values .entry))) (length (now (counts .entry))) ⌝ }
+    ensures pairs { λ _. ⌜ now (pairs .exit) ≡ choose (tallyRefusal (now (votes .entry)) (length (now (values .entry))) (length (now (counts .entry)))) (length (distinctVotes (now (votes .entry)))) (now (pairs .entry)) ⌝ }
+    ensures values { λ _. ⌜ now (values .exit) ≡ afterwards (tallyRefusal (now (votes .entry)) (length (now (values .entry))) (length (now (counts .entry)))) (now (values .entry)) (inFront (distinctVotes (now (votes .entry))) (now (values .entry))) ⌝ }
+    ensures counts { λ _. ⌜ now (counts .exit) ≡ afterwards (tallyRefusal (now (votes .entry)) (length (now (values .entry))) (length (now (counts .entry)))) (now (counts .entry)) (inFront (voteCounts (now (votes .entry))) (now (counts .entry))) ⌝ }
+{
+    match tally::tally(votes, values, counts) {
+        Tally::Refused(k) => k,
+        Tally::Pairs(k) => {
+            *pairs = k as u64;
+            0
+        }
+    }
+}
+
+// ---- results
+
+// 0 posted as printed, 101 posted otherwise, 102 not posted, else the refusal's number.
+#[no_mangle]
+pub extern "C" fn paddockyear_check_receipt(bytes: &[u8], printed: &[u8]) -> u32
+    ensures { λ r. ⌜ r ≡ receiptCode (receiptChecked (now (bytes .entry)) (now (printed .entry))) ⌝ }
+{
+    receipt_code(results::check_receipt(bytes, printed))
+}
+
+fn receipt_code(answer: Receipt) -> u32
+    ensures { λ r. ⌜ r ≡ receiptCode answer ⌝ }
+{
+    match answer {
+        Receipt::AsPrinted => 0,
+        Receipt::Otherwise => 101,
+        Receipt::NotPosted => 102,
+        Receipt::Refused(k) => k,
+    }
+}
+
+// The announced votes of an accepted record.
+#[no_mangle]
+pub extern "C" fn paddockyear_announced_votes(bytes: &[u8], out: &mut [u32]) -> u32
+    ensures answer { λ r. ⌜ r ≡ announcedRefusal (now (bytes .entry)) (length (now (out .entry))) ⌝ }
+    ensures output { λ _. ⌜ now (out .exit) ≡ afterwards (announcedRefusal (now (bytes .entry)) (length (now (out .entry)))) (now (out .entry)) (announcedVotes (now (bytes .entry))) ⌝ }
+{
+    written_code(results::announced_votes(bytes, out))
+}
