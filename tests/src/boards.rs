@@ -1,0 +1,171 @@
+//! Honest inputs and boards of any shape, and where each command of a record stands.
+
+pub mod calls;
+pub mod damage;
+
+use crate::random::Random;
+use crate::reference::terms::{Parameters, MAX_BALLOTS, MAX_M};
+use crate::reference::writer::{self, Inputs, MaskSource, SidesSource};
+
+/// Moduli at the limits, around powers of two, and in between.
+pub const MODULI: [u32; 9] =
+    [2, 3, 9, 100, 65_537, 0x7FFF_FFFF, 0x8000_0000, 0xFFFF_FFFE, u32::MAX];
+
+/// Parameters with at most `n` ballots and 2 * `m` lists.
+pub fn parameters(random: &mut Random, n: u32, m: u32) -> Parameters {
+    assert!(n <= MAX_BALLOTS && m <= MAX_M);
+    Parameters { modulus: random.pick(&MODULI), n: 1 + random.number(n), m: 1 + random.number(m) }
+}
+
+/// Inputs that no part refuses; votes repeat.
+pub fn inputs(random: &mut Random, parameters: Parameters) -> Inputs {
+    let Parameters { modulus, n, m } = parameters;
+    let mn = (m * n) as usize;
+    let n = n as usize;
+    let candidates: Vec<u32> = (0..1 + n / 2).map(|_| random.number(modulus)).collect();
+    Inputs {
+        parameters,
+        ids: ids(random, n),
+        votes: (0..n).map(|_| random.pick(&candidates)).collect(),
+        numbers: (0..5 * n + 18 * mn).map(|_| random.number(modulus)).collect(),
+        permutations: (0..6 * m).flat_map(|_| random.permutation(n)).collect(),
+        keys: random.bytes(192 * n + 384 * mn),
+    }
+}
+
+/// Ids that rise strictly: dense from 0, sparse, or spread over all 32 bits.
+fn ids(random: &mut Random, n: usize) -> Vec<u32> {
+    let step = random.pick(&[1, 3, u64::from(u32::MAX) / n as u64]);
+    (0..n as u64).map(|j| (j * step + random.below(step)) as u32).collect()
+}
+
+/// A board as the servers wrote it.
+pub struct Board {
+    pub inputs: Inputs,
+    pub mask: u32,
+    pub parts: [Vec<u8>; 3],
+}
+
+impl Board {
+    pub fn record(&self) -> Vec<u8> {
+        self.parts.concat()
+    }
+}
+
+/// Which of mask and sides are drawn; what is not drawn is given.
+#[derive(Clone, Copy, Debug, PartialEq, Eq)]
+pub struct Draws {
+    pub mask: bool,
+    pub sides: bool,
+}
+
+pub const NEITHER: Draws = Draws { mask: false, sides: false };
+pub const BOTH: Draws = Draws { mask: true, sides: true };
+pub const ALL_DRAWS: [Draws; 4] =
+    [NEITHER, Draws { mask: true, sides: false }, Draws { mask: false, sides: true }, BOTH];
+
+/// An honest board by the reference's writer, random where it is given something.
+pub fn board(random: &mut Random, inputs: &Inputs, draws: Draws) -> Board {
+    let dice = [random.dice(), random.dice()];
+    board_with_dice(random, inputs, &dice, draws)
+}
+
+pub fn board_with_dice(
+    random: &mut Random,
+    inputs: &Inputs,
+    dice: &[Vec<u8>; 2],
+    draws: Draws,
+) -> Board {
+    let [mut one, mut two, mut three] =
+        inputs.parameters.part_lengths().map(|length| random.bytes(length));
+    writer::part_one(inputs, &mut one).unwrap();
+    let source = match draws.mask {
+        true => MaskSource::Drawn { part_one: &one },
+        false => MaskSource::Given(random.mask(inputs.parameters.m)),
+    };
+    writer::part_two(inputs, &dice[0], source, &mut two).unwrap();
+    let mask = u32::from_be_bytes(two[31..35].try_into().unwrap());
+    let given = random.sides(inputs.parameters.ballots());
+    let source = match draws.sides {
+        true => SidesSource::Drawn { part_one: &one, part_two: &two },
+        false => SidesSource::Given(&given),
+    };
+    writer::part_three(inputs, &dice[1], mask, source, &mut three).unwrap();
+    Board { inputs: inputs.clone(), mask, parts: [one, two, three] }
+}
+
+/// An honest board of random inputs.
+pub fn honest(random: &mut Random, parameters: Parameters, draws: Draws) -> Board {
+    let inputs = inputs(random, parameters);
+    board(random, &inputs, draws)
+}
+
+/// Where each command of a record of this shape starts. `rank` counts the compared lists, or for
+/// 0A the others.
+#[derive(Clone, Copy, Debug)]
+pub struct Layout {
+    n: usize,
+    m: usize,
+}
+
+impl Layout {
+    pub fn new(parameters: &Parameters) -> Self {
+        Layout { n: parameters.ballots(), m: parameters.m as usize }
+    }
+
+    pub fn ballot(&self, j: usize) -> usize {
+        8 + 197 * j
+    }
+
+    pub fn entry(&self, list: usize, position: usize) -> usize {
+        self.ballot(self.n) + 196 * (list * self.n + position)
+    }
+
+    pub fn first_dice(&self) -> usize {
+        self.entry(2 * self.m, 0)
+    }
+
+    pub fn link(&self, rank: usize, ballot: usize) -> usize {
+        self.first_dice() + 35 + 10 * (rank * self.n + ballot)
+    }
+
+    pub fn second_dice(&self) -> usize {
+        self.link(self.m, 0)
+    }
+
+    pub fn ballot_half(&self, ballot: usize) -> usize {
+        self.second_dice() + 31 + 112 * (1 + self.m) * ballot
+    }
+
+    pub fn list_half(&self, ballot: usize, rank: usize) -> usize {
+        self.ballot_half(ballot) + 112 * (1 + rank)
+    }
+
+    pub fn vote(&self, index: usize) -> usize {
+        self.ballot_half(self.n) + 7 * index
+    }
+
+    pub fn full_opening(&self, rank: usize, position: usize) -> usize {
+        self.vote(self.n) + 220 * (rank * self.n + position)
+    }
+
+    pub fn end(&self) -> usize {
+        self.full_opening(self.m, 0)
+    }
+
+    /// The start of every command, rising.
+    pub fn commands(&self) -> Vec<usize> {
+        let (n, m) = (self.n, self.m);
+        let grid = |lists: usize| (0..lists).flat_map(move |l| (0..n).map(move |i| (l, i)));
+        let mut places = vec![0, self.first_dice(), self.second_dice(), self.end()];
+        places.extend((0..n).map(|j| self.ballot(j)));
+        places.extend(grid(2 * m).map(|(list, i)| self.entry(list, i)));
+        places.extend(grid(m).map(|(rank, j)| self.link(rank, j)));
+        places.extend((0..n).map(|j| self.ballot_half(j)));
+        places.extend(grid(m).map(|(rank, j)| self.list_half(j, rank)));
+        places.extend((0..n).map(|index| self.vote(index)));
+        places.extend(grid(m).map(|(rank, i)| self.full_opening(rank, i)));
+        places.sort_unstable();
+        places
+    }
+}

@@ -1,0 +1,12 @@
+//! Document 01 in plain Rust: clarity before speed.
+
+pub mod columns;
+pub mod drawing;
+pub mod judge;
+pub mod page;
+pub mod receipt;
+pub mod results;
+pub mod sha3;
+pub mod tablet;
+pub mod terms;
+pub mod writer;

@@ -1,0 +1,142 @@
+//! Document 01's terms: parameters, numbers, openings, commitments, and the refusals' numbers.
+
+use super::sha3::sha3_256;
+
+/// The numbers of document 01's refusals.
+pub mod refusal {
+    pub const STOPS: u8 = 1;
+    pub const NOT_DUE: u8 = 2;
+    pub const LIMITS: u8 = 3;
+    pub const OPERAND: u8 = 4;
+    pub const ID: u8 = 5;
+    pub const DICE: u8 = 6;
+    pub const MASK_SHAPE: u8 = 7;
+    pub const MASK_DRAWN: u8 = 8;
+    pub const POSITION: u8 = 9;
+    pub const NUMBER: u8 = 10;
+    pub const SIDE: u8 = 11;
+    pub const SIDE_DRAWN: u8 = 12;
+    pub const OPENING: u8 = 13;
+    pub const HALVES: u8 = 14;
+    pub const VOTE_FALLS: u8 = 15;
+    pub const OPENED_LIST: u8 = 16;
+    pub const BEHIND: u8 = 17;
+    pub const LENGTH: u8 = 18;
+    pub const PERMUTATION: u8 = 19;
+}
+
+pub const MAX_BALLOTS: u32 = 1024;
+pub const MAX_M: u32 = 12;
+pub const DICE: usize = 30;
+
+/// M, n and m, wide enough to be wrong.
+#[derive(Clone, Copy, Debug, PartialEq, Eq)]
+pub struct Parameters {
+    pub modulus: u32,
+    pub n: u32,
+    pub m: u32,
+}
+
+impl Parameters {
+    pub fn within_limits(&self) -> bool {
+        self.modulus >= 2 && ballots_within_limits(self.n) && (1..=MAX_M).contains(&self.m)
+    }
+
+    pub fn ballots(&self) -> usize {
+        self.n as usize
+    }
+
+    pub fn lists(&self) -> usize {
+        2 * self.m as usize
+    }
+
+    /// The lengths of the servers' three parts.
+    pub fn part_lengths(&self) -> [usize; 3] {
+        let (n, mn) = (self.ballots(), self.m as usize * self.ballots());
+        [8 + 197 * n + 392 * mn, 35 + 10 * mn, 32 + 119 * n + 332 * mn]
+    }
+
+    /// The length of the whole record.
+    pub fn record_length(&self) -> usize {
+        let (n, m) = (self.ballots(), self.m as usize);
+        75 + 316 * n + 734 * m * n
+    }
+}
+
+pub fn ballots_within_limits(n: u32) -> bool {
+    (1..=MAX_BALLOTS).contains(&n)
+}
+
+/// The sum modulo M.
+pub fn sum(modulus: u32, numbers: &[u32]) -> u32 {
+    let total: u64 = numbers.iter().map(|&number| u64::from(number)).sum();
+    (total % u64::from(modulus)) as u32
+}
+
+/// a - b modulo M.
+pub fn difference(modulus: u32, a: u32, b: u32) -> u32 {
+    (i64::from(a) - i64::from(b)).rem_euclid(i64::from(modulus)) as u32
+}
+
+pub type Commitment = [u8; 32];
+
+/// A key and then a number.
+#[derive(Clone, Copy, Debug, PartialEq, Eq)]
+pub struct Opening {
+    pub key: [u8; 32],
+    pub number: u32,
+}
+
+impl Opening {
+    pub fn to_bytes(&self) -> [u8; 36] {
+        let mut bytes = [0; 36];
+        bytes[..32].copy_from_slice(&self.key);
+        bytes[32..].copy_from_slice(&self.number.to_be_bytes());
+        bytes
+    }
+
+    pub fn commitment(&self) -> Commitment {
+        sha3_256(&self.to_bytes())
+    }
+}
+
+/// Six openings or commitments stand in the order u1, v1, u2, v2, u3, v3: this side's three.
+pub fn of_side<T: Copy>(six: &[T; 6], side: u8) -> [T; 3] {
+    let side = usize::from(side);
+    [six[side], six[2 + side], six[4 + side]]
+}
+
+pub fn die_is_fair(character: &u8) -> bool {
+    (b'1'..=b'6').contains(character)
+}
+
+/// Exactly m ones and no bit at 2m or above.
+pub fn mask_stands(m: u32, mask: u32) -> bool {
+    mask.count_ones() == m && (mask >> (2 * m)) == 0
+}
+
+/// The lists whose bit is set, rising, or those whose bit is not.
+pub fn lists_of(m: u32, mask: u32, compared: bool) -> Vec<usize> {
+    (0..2 * m as usize).filter(|list| (mask >> list & 1 == 1) == compared).collect()
+}
+
+/// On side 0 the ballot's sum is the list's plus t, on side 1 the list's minus t.
+pub fn halves_agree(modulus: u32, side: u8, ballot: [u32; 3], list: [u32; 3], t: u32) -> bool {
+    let list = sum(modulus, &list);
+    let due = match side {
+        0 => sum(modulus, &[list, t]),
+        _ => difference(modulus, list, t),
+    };
+    sum(modulus, &ballot) == due
+}
+
+/// The same numbers, each as often.
+pub fn is_permutation_of(a: &[u32], b: &[u32]) -> bool {
+    sorted(a) == sorted(b)
+}
+
+pub fn sorted(numbers: &[u32]) -> Vec<u32> {
+    let mut sorted = numbers.to_vec();
+    sorted.sort_unstable();
+    sorted
+}

@@ -1,0 +1,74 @@
+//! Document 01's samples of the terms and of the page.
+
+use paddockyear_tests::boards::{board, inputs, BOTH};
+use paddockyear_tests::random::Random;
+use paddockyear_tests::reference::columns::{column, composed};
+use paddockyear_tests::reference::drawing::choose;
+use paddockyear_tests::reference::judge::{judge, Judging};
+use paddockyear_tests::reference::page::page;
+use paddockyear_tests::reference::tablet::SplitVote;
+use paddockyear_tests::reference::terms::*;
+
+#[test]
+fn sums_modulo_100() {
+    assert_eq!(sum(100, &[38, 80]), 18);
+    assert_eq!(difference(100, 0, 17), 83);
+}
+
+#[test]
+fn tablet() {
+    let split = SplitVote { vote: 24, shares: [50, 60], firsts: [7, 99, 30] };
+    assert_eq!(split.rows(100)[2], 14);
+    assert_eq!(split.six(100), [7, 43, 99, 61, 30, 84]);
+    let split = SplitVote { vote: 1, shares: [1, 1], firsts: [1, 1, 1] };
+    assert_eq!(split.rows(2)[2], 1);
+    assert_eq!(split.six(2), [1, 0, 1, 0, 1, 0]);
+}
+
+#[test]
+fn columns() {
+    assert_eq!(column(9, &[5, 6, 7], &[1, 2, 3], &[2, 0, 1]), [1, 6, 8]);
+    assert_eq!(composed([&[1, 2, 0]; 3]), [0, 1, 2]);
+}
+
+/// Three different permutations pin their order.
+#[test]
+fn order_of_permutations() {
+    assert_eq!(composed([&[1, 2, 0], &[0, 2, 1], &[2, 1, 0]]), [2, 0, 1]);
+    assert_eq!(composed([&[2, 1, 0], &[0, 2, 1], &[1, 2, 0]]), [0, 1, 2]);
+}
+
+#[test]
+fn masks() {
+    assert!(mask_stands(2, 3));
+    assert!(!mask_stands(2, 11));
+    assert!(!mask_stands(2, 17));
+    assert_eq!(choose(1, |_| 7), 2);
+}
+
+#[test]
+fn t_fits_both_sides() {
+    assert!(halves_agree(100, 0, [36, 0, 0], [90, 0, 0], 46));
+    assert!(halves_agree(100, 1, [88, 0, 0], [34, 0, 0], 46));
+    assert!(!halves_agree(100, 1, [88, 0, 0], [90, 0, 0], 46));
+    assert!(!halves_agree(100, 1, [80, 0, 0], [34, 0, 0], 46));
+}
+
+#[test]
+fn permuted_votes() {
+    assert!(is_permutation_of(&[5, 2, 5], &[2, 5, 5]));
+    assert!(!is_permutation_of(&[2, 2, 5], &[2, 5, 5]));
+}
+
+#[test]
+fn page_of_2_5_5() {
+    let random = &mut Random::new(5);
+    let mut inputs = inputs(random, Parameters { modulus: 9, n: 3, m: 2 });
+    inputs.votes = vec![5, 2, 5];
+    let record = board(random, &inputs, BOTH).record();
+    assert_eq!(judge(&record, Judging::Drawn), Ok(vec![2, 5, 5]));
+    assert_eq!(page(&record), "ACCEPTED\n2 1\n5 2\n");
+    assert_eq!(page(&[]), "REFUSED 1\n");
+    assert_eq!(page(&[0x01; 65_536]), "REFUSED 2\n");
+    assert_eq!(page(&[0x01; 65_537]), "TOO LONG\n");
+}

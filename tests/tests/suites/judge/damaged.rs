@@ -1,0 +1,222 @@
+//! Damaged boards: each rule alone, every pair of breaches, cuts and flipped bits.
+
+use std::collections::BTreeSet;
+
+use crate::subject::judge;
+use paddockyear_tests::boards::damage::*;
+use paddockyear_tests::boards::*;
+use paddockyear_tests::random::Random;
+use paddockyear_tests::reference::judge::{Fault, Judging, JUDGINGS};
+use paddockyear_tests::reference::terms::Parameters;
+use paddockyear_tests::reference::writer::Secrets;
+
+const SHAPE: Parameters = Parameters { modulus: 100, n: 3, m: 2 };
+
+/// The rules that a judging meets.
+fn rules(judging: Judging) -> BTreeSet<u8> {
+    (1..=17).filter(|rule| judging == Judging::Drawn || ![8, 12].contains(rule)).collect()
+}
+
+#[test]
+fn every_rule_alone_in_every_shape() {
+    let random = &mut Random::new(20);
+    for judging in JUDGINGS {
+        let mut met = BTreeSet::new();
+        for way in breaches(judging) {
+            for (n, m) in [(1, 1), (2, 1), (3, 2), (5, 3)] {
+                let parameters = Parameters { modulus: random.pick(&MODULI), n, m };
+                if way.possible(&parameters) {
+                    met.insert(one(random, parameters, way, judging));
+                }
+            }
+        }
+        assert_eq!(met, rules(judging));
+    }
+}
+
+/// Damages a random board and answers the number that the judge found.
+fn one(random: &mut Random, parameters: Parameters, one: Breach, judging: Judging) -> u8 {
+    let secrets = Secrets::new(&inputs(random, parameters));
+    let target = Target::any(random, &parameters);
+    let mut forgery = Forgery::new(secrets, random.mask(parameters.m));
+    let due = breach(&mut forgery, &target, &[one]);
+    let found = judge(&forgery.record(random, judging), judging);
+    assert_eq!(found, Err(due), "{:02X} {} {parameters:?} {target:?}", one.command, one.name);
+    due.number
+}
+
+/// Every two breaches at once, in one command and across commands.
+#[test]
+fn every_pair() {
+    let random = &mut Random::new(21);
+    let secrets = Secrets::new(&inputs(random, SHAPE));
+    let target = Target { ballot: 1, list: 2, position: 1, rank: 1, opened: 0 };
+    for judging in JUDGINGS {
+        let forgery = Forgery::new(secrets.clone(), 0b0101);
+        let mut breaches = breaches(judging);
+        breaches.dedup_by_key(|breach| (breach.command, breach.number, breach.name));
+        for (at, one) in breaches.iter().enumerate() {
+            for other in breaches[..at].iter().filter(|other| one.goes_with(other)) {
+                let mut forgery = forgery.clone();
+                let due = breach(&mut forgery, &target, &[*one, *other]);
+                let found = judge(&forgery.record(random, judging), judging);
+                let names = [one, other].map(|breach| (breach.command, breach.name));
+                assert_eq!(found, Err(due), "{names:?}");
+            }
+        }
+    }
+}
+
+#[test]
+fn random_boards_with_random_faults() {
+    let random = &mut Random::new(22);
+    for judging in JUDGINGS {
+        for _ in 0..1_500 {
+            let (record, due) = damaged(random, 9, 3, judging);
+            assert_eq!(judge(&record, judging), Err(due));
+        }
+    }
+}
+
+/// High bytes of the operands and ballot numbers of four digits.
+#[test]
+fn faults_far_behind() {
+    let random = &mut Random::new(23);
+    let parameters = Parameters { modulus: u32::MAX, n: 1024, m: 1 };
+    let secrets = Secrets::new(&inputs(random, parameters));
+    let names = ["the other side", "third key", "t above", "vote falls", "value below"];
+    for one in breaches(Judging::Drawn).into_iter().filter(|one| names.contains(&one.name)) {
+        let target = Target { ballot: 1010, list: 1, position: 1000, rank: 0, opened: 0 };
+        let mut forgery = Forgery::new(secrets.clone(), 0b10);
+        let due = breach(&mut forgery, &target, &[one]);
+        let record = forgery.record(random, Judging::Drawn);
+        assert_eq!(judge(&record, Judging::Drawn), Err(due), "{}", one.name);
+    }
+}
+
+/// Every proper prefix is 1, at the command that it cuts.
+#[test]
+fn every_prefix() {
+    let random = &mut Random::new(24);
+    let parameters = Parameters { modulus: 9, n: 2, m: 1 };
+    let record = honest(random, parameters, BOTH).record();
+    let starts = Layout::new(&parameters).commands();
+    for judging in JUDGINGS {
+        for length in 0..record.len() {
+            let place = *starts.iter().rfind(|&&start| start <= length).unwrap();
+            assert_eq!(judge(&record[..length], judging), Err(Fault { number: 1, place }));
+        }
+    }
+}
+
+/// Every other byte in a command's place is 2.
+#[test]
+fn every_command_byte() {
+    let random = &mut Random::new(25);
+    let record = honest(random, SHAPE, BOTH).record();
+    for place in Layout::new(&SHAPE).commands() {
+        for byte in (0..=255).filter(|byte| *byte != record[place]).step_by(5) {
+            let mut record = record.clone();
+            record[place] = byte;
+            for judging in JUDGINGS {
+                assert_eq!(judge(&record, judging), Err(Fault { number: 2, place }));
+            }
+        }
+    }
+}
+
+/// Behind an accepted record any bytes are 17.
+#[test]
+fn bytes_behind() {
+    let random = &mut Random::new(26);
+    let record = honest(random, SHAPE, BOTH).record();
+    let fault = Fault { number: 17, place: record.len() };
+    for byte in 0..=255 {
+        for judging in JUDGINGS {
+            assert_eq!(judge(&[&record[..], &[byte]].concat(), judging), Err(fault));
+        }
+    }
+    let twice = [&record[..], &record[..]].concat();
+    assert_eq!(judge(&twice, Judging::Drawn), Err(fault));
+}
+
+/// Plain judging passes a flipped bit only in the id, in dice that stay fair, and in commitments
+/// that nothing opens; every fault lies at the flipped command or behind. Of M's bits only that.
+#[test]
+fn every_flipped_bit() {
+    let random = &mut Random::new(27);
+    let parameters = Parameters { modulus: u32::MAX, n: 1, m: 1 };
+    let board = honest(random, parameters, BOTH);
+    let record = board.record();
+    let free = free_places(&board, &record);
+    let starts = Layout::new(&parameters).commands();
+    for bit in 0..8 * record.len() {
+        let (place, mut record) = (bit / 8, record.clone());
+        record[place] ^= 1 << (bit % 8);
+        let fair =
+            !dice_places(&parameters).contains(&place) || (b'1'..=b'6').contains(&record[place]);
+        let plain = judge(&record, Judging::Plain);
+        if !(1..5).contains(&place) {
+            assert_eq!(plain.is_ok(), free.contains(&place) && fair, "bit {bit}: {plain:?}");
+        }
+        let start = *starts.iter().rfind(|&&start| start <= place).unwrap();
+        for verdict in [plain, judge(&record, Judging::Drawn)] {
+            assert!(verdict.map_or_else(|fault| fault.place, |_| record.len()) >= start);
+        }
+    }
+}
+
+/// Flipped bits and cuts anywhere in boards of any small shape.
+#[test]
+fn random_flips_and_cuts() {
+    let random = &mut Random::new(28);
+    for _ in 0..1_000 {
+        let parameters = parameters(random, 4, 3);
+        let record = honest(random, parameters, BOTH).record();
+        let flipped = flipped(random, &record);
+        let cut = random.index(record.len());
+        for judging in JUDGINGS {
+            let found = judge(&record[..cut], judging).unwrap_err();
+            assert!(found.number == 1 && found.place <= cut);
+            let place = judge(&flipped, judging).map_or_else(|fault| fault.place, |_| 0);
+            assert!(place <= record.len());
+        }
+    }
+}
+
+/// Any bytes at all, and any bytes behind an honest beginning.
+#[test]
+fn noise() {
+    let random = &mut Random::new(29);
+    let record = honest(random, SHAPE, BOTH).record();
+    for length in 0..1_000 {
+        let noise = random.bytes(length);
+        let begun = [&record[..random.index(record.len())], &noise].concat();
+        for judging in JUDGINGS {
+            assert!(judge(&noise, judging).is_err());
+            assert!(judge(&begun, judging).is_err());
+        }
+    }
+}
+
+fn dice_places(parameters: &Parameters) -> Vec<usize> {
+    let layout = Layout::new(parameters);
+    let dice = [layout.first_dice(), layout.second_dice()];
+    dice.iter().flat_map(|place| place + 1..place + 31).collect()
+}
+
+/// For one ballot and two lists: the id, the dice, and the unopened side of ballot and list.
+fn free_places(board: &Board, record: &[u8]) -> BTreeSet<usize> {
+    let layout = Layout::new(&board.inputs.parameters);
+    let hidden = 1 - usize::from(record[layout.ballot_half(0) + 3]);
+    let compared = board.mask.trailing_zeros() as usize;
+    let mut free: BTreeSet<usize> = (layout.ballot(0) + 1..layout.ballot(0) + 5).collect();
+    free.extend(dice_places(&board.inputs.parameters));
+    for commitments in [layout.ballot(0) + 5, layout.entry(compared, 0) + 4] {
+        for row in 0..3 {
+            let start = commitments + 32 * (2 * row + hidden);
+            free.extend(start..start + 32);
+        }
+    }
+    free
+}

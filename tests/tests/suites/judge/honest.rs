@@ -1,0 +1,84 @@
+//! Honest boards of many shapes are accepted, the drawn ones by both judgings.
+
+use super::verdict;
+use crate::subject::judge;
+use paddockyear_tests::boards::*;
+use paddockyear_tests::random::Random;
+use paddockyear_tests::reference::judge::{Judging, JUDGINGS};
+use paddockyear_tests::reference::terms::{sorted, Parameters};
+
+fn accepted(board: &Board, judging: Judging) {
+    let parameters = board.inputs.parameters;
+    let record = board.record();
+    assert_eq!(record.len(), parameters.record_length(), "{parameters:?}");
+    assert_eq!(judge(&record, judging), Ok(sorted(&board.inputs.votes)), "{parameters:?}");
+}
+
+#[test]
+fn of_any_shape() {
+    let random = &mut Random::new(10);
+    for _ in 0..150 {
+        let parameters = parameters(random, 12, 12);
+        let inputs = inputs(random, parameters);
+        for draws in ALL_DRAWS {
+            accepted(&board(random, &inputs, draws), Judging::Plain);
+        }
+        accepted(&board(random, &inputs, BOTH), Judging::Drawn);
+    }
+}
+
+/// Every n from 1 to 40 with every m, the moduli in turn.
+#[test]
+fn of_every_shape() {
+    let random = &mut Random::new(14);
+    for n in 1..=40 {
+        for m in 1..=12 {
+            let modulus = MODULI[(n + m) as usize % MODULI.len()];
+            let board = honest(random, Parameters { modulus, n, m }, BOTH);
+            for judging in JUDGINGS {
+                accepted(&board, judging);
+            }
+        }
+    }
+}
+
+/// Indices above a byte, ballot numbers of three and four digits, and the largest board.
+#[test]
+fn with_many_ballots() {
+    let random = &mut Random::new(11);
+    for (n, m) in [(99, 2), (100, 1), (256, 1), (257, 1), (1000, 1), (1024, 1), (1024, 12)] {
+        let board = honest(random, Parameters { modulus: u32::MAX, n, m }, BOTH);
+        accepted(&board, Judging::Plain);
+        accepted(&board, Judging::Drawn);
+    }
+}
+
+/// A given mask or given sides hold in drawn judging only where they happen to be the drawn ones.
+#[test]
+fn given_ones_are_refused_by_drawn_judging() {
+    let random = &mut Random::new(12);
+    for _ in 0..20 {
+        let parameters = Parameters { modulus: 100, n: 40, m: 8 };
+        let inputs = inputs(random, parameters);
+        let mask_given = board(random, &inputs, Draws { mask: false, sides: true }).record();
+        assert_eq!(verdict(&mask_given, Judging::Drawn), 8);
+        let sides_given = board(random, &inputs, Draws { mask: true, sides: false }).record();
+        assert_eq!(verdict(&sides_given, Judging::Drawn), 12);
+    }
+}
+
+#[test]
+fn the_layout_finds_every_command() {
+    let random = &mut Random::new(13);
+    for _ in 0..30 {
+        let parameters = parameters(random, 9, 5);
+        let board = honest(random, parameters, BOTH);
+        let (record, layout) = (board.record(), Layout::new(&parameters));
+        let codes: Vec<u8> = layout.commands().iter().map(|&place| record[place]).collect();
+        let count = |code: u8| codes.iter().filter(|&&other| other == code).count();
+        let (n, mn) = (parameters.ballots(), parameters.m as usize * parameters.ballots());
+        let counts: Vec<usize> = (1..=11).map(count).collect();
+        assert_eq!(counts, [1, n, 2 * mn, 1, mn, 1, n, mn, n, mn, 1]);
+        assert_eq!(layout.end() + 1, record.len());
+    }
+}

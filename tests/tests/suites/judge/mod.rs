@@ -1,0 +1,14 @@
+//! What a judge answers, plainly and as drawn: the number and the place of the first fault.
+
+mod boundaries;
+mod damaged;
+mod honest;
+mod samples;
+
+use crate::subject::judge;
+use paddockyear_tests::reference::judge::Judging;
+
+/// The number alone, 0 for an accepted record.
+fn verdict(record: &[u8], judging: Judging) -> u8 {
+    judge(record, judging).map_or_else(|fault| fault.number, |_| 0)
+}

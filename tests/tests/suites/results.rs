@@ -1,0 +1,256 @@
+//! What the receipt check, the announced votes and the tally answer and write.
+
+use std::collections::BTreeSet;
+
+use crate::subject::{announced_votes, check_receipt, tally};
+use paddockyear_tests::boards::damage::{breach, breaches, damaged, Forgery, Target};
+use paddockyear_tests::boards::*;
+use paddockyear_tests::random::Random;
+use paddockyear_tests::reference::judge::Judging;
+use paddockyear_tests::reference::receipt::Posted;
+use paddockyear_tests::reference::tablet::receipt;
+use paddockyear_tests::reference::terms::{sorted, Parameters};
+use paddockyear_tests::reference::writer::Secrets;
+
+const SHAPE: Parameters = Parameters { modulus: 100, n: 5, m: 1 };
+
+fn ballot(record: &[u8], j: usize) -> &[u8] {
+    &record[8 + 197 * j..][..197]
+}
+
+#[test]
+fn receipts_of_posted_ballots() {
+    let board = honest(&mut Random::new(40), SHAPE, BOTH);
+    let record = board.record();
+    for (j, &id) in board.inputs.ids.iter().enumerate() {
+        let printed = receipt(id, ballot(&record, j));
+        assert_eq!(check_receipt(&record, &printed), Ok(Posted::AsPrinted));
+        for byte in 4..32 {
+            let mut other = printed;
+            other[byte] ^= 0x10;
+            assert_eq!(check_receipt(&record, &other), Ok(Posted::Otherwise));
+        }
+    }
+}
+
+#[test]
+fn receipts_of_other_ids() {
+    let random = &mut Random::new(41);
+    let mut inputs = inputs(random, SHAPE);
+    inputs.ids = vec![3, 5, 256, 65_536, u32::MAX - 1];
+    let record = board(random, &inputs, BOTH).record();
+    for id in [0, 2, 4, 6, 255, 257, 65_537, u32::MAX] {
+        let printed = receipt(id, ballot(&record, 0));
+        assert_eq!(check_receipt(&record, &printed), Ok(Posted::Not));
+    }
+}
+
+/// The length first, then the judge's 1 to 5 over all ballots; a match comes after them.
+#[test]
+fn receipt_refusals() {
+    let board = honest(&mut Random::new(42), SHAPE, BOTH);
+    let record = board.record();
+    let printed = receipt(board.inputs.ids[0], ballot(&record, 0));
+    let end = 8 + 197 * 5;
+    for length in [0, 31, 33] {
+        assert_eq!(check_receipt(&[], &[printed, printed].concat()[..length]), Err(18));
+    }
+    for length in 0..end {
+        assert_eq!(check_receipt(&record[..length], &printed), Err(1));
+    }
+    assert_eq!(check_receipt(&record[..end], &printed), Ok(Posted::AsPrinted));
+    for (place, number) in [(0, 2), (7, 3), (8 + 197 * 4, 2)] {
+        let mut record = record.clone();
+        record[place] ^= 0x40;
+        assert_eq!(check_receipt(&record, &printed), Err(number));
+    }
+    let mut falling = record.clone();
+    falling.copy_within(9 + 197 * 3..13 + 197 * 3, 9 + 197 * 4);
+    assert_eq!(check_receipt(&falling, &printed), Err(5));
+    let noise = [&record[..end], &[0xFF; 40]].concat();
+    assert_eq!(check_receipt(&noise, &printed), Ok(Posted::AsPrinted));
+}
+
+/// Every breach of 01 and 02 is met before the receipt's own ballot counts; later ones are not.
+#[test]
+fn receipts_on_damaged_boards() {
+    let random = &mut Random::new(44);
+    let parameters = Parameters { modulus: 100, n: 5, m: 2 };
+    let secrets = Secrets::new(&inputs(random, parameters));
+    let printed = receipt(secrets.ids[0], ballot(&secrets.part_one(), 0));
+    let target = Target { ballot: 3, list: 1, position: 2, rank: 1, opened: 0 };
+    let mut met = BTreeSet::new();
+    for one in breaches(Judging::Plain) {
+        let mut forgery = Forgery::new(secrets.clone(), random.mask(2));
+        let due = breach(&mut forgery, &target, &[one]);
+        let record = forgery.record(random, Judging::Plain);
+        let found = check_receipt(&record, &printed);
+        if one.command <= 0x02 {
+            assert_eq!(found, Err(due.number), "{:02X} {}", one.command, one.name);
+            met.insert(due.number);
+        } else {
+            assert_eq!(found, Ok(Posted::AsPrinted), "{:02X} {}", one.command, one.name);
+        }
+        assert_eq!(check_receipt(&record, &printed[1..]), Err(18));
+    }
+    assert_eq!(met, BTreeSet::from([1, 2, 3, 5]));
+}
+
+/// Receipts of the board, with other ids or hashes, and of any bytes, on boards of any shape.
+#[test]
+fn random_receipts() {
+    let random = &mut Random::new(45);
+    for _ in 0..200 {
+        let parameters = parameters(random, 40, 1);
+        let board = honest(random, parameters, NEITHER);
+        let record = board.record();
+        for (j, &id) in board.inputs.ids.iter().enumerate() {
+            let printed = receipt(id, ballot(&record, j));
+            assert_eq!(check_receipt(&record, &printed), Ok(Posted::AsPrinted));
+            let mut other = printed;
+            other[random.index(32)] ^= 1 << random.below(8);
+            assert_ne!(check_receipt(&record, &other), Ok(Posted::AsPrinted));
+            let another = ballot(&record, random.index(parameters.ballots()));
+            let due = another == ballot(&record, j);
+            let found = check_receipt(&record, &receipt(id, another));
+            assert_eq!(found, Ok(if due { Posted::AsPrinted } else { Posted::Otherwise }));
+        }
+        let noise = random.bytes(32);
+        assert_ne!(check_receipt(&record, &noise), Ok(Posted::AsPrinted));
+    }
+}
+
+/// Ballots far behind, with ids that differ in single bytes.
+#[test]
+fn receipts_among_many_ballots() {
+    let random = &mut Random::new(46);
+    let mut inputs = inputs(random, Parameters { modulus: 2, n: 1024, m: 1 });
+    inputs.ids = (0..1024).map(|j| j * 0x0040_0401).collect();
+    let record = board(random, &inputs, NEITHER).record();
+    for j in [0, 1, 255, 256, 1000, 1023] {
+        let printed = receipt(inputs.ids[j], ballot(&record, j));
+        assert_eq!(check_receipt(&record, &printed), Ok(Posted::AsPrinted));
+        let beside = receipt(inputs.ids[j] + 1, ballot(&record, j));
+        assert_eq!(check_receipt(&record, &beside), Ok(Posted::Not));
+    }
+}
+
+#[test]
+fn announced() {
+    let board = honest(&mut Random::new(43), SHAPE, NEITHER);
+    let mut record = board.record();
+    let mut out = [77; 6];
+    assert_eq!(announced_votes(&record, &mut out[..5]), Ok(()));
+    assert_eq!(out[..5], sorted(&board.inputs.votes));
+    let before = out;
+    assert_eq!(announced_votes(&record, &mut out), Err(18));
+    assert_eq!(announced_votes(&record, &mut out[..4]), Err(18));
+    record.push(0);
+    assert_eq!(announced_votes(&record, &mut out[..4]), Err(17));
+    assert_eq!(out, before);
+}
+
+#[test]
+fn announced_by_boards_of_any_shape() {
+    let random = &mut Random::new(47);
+    for round in 0..200 {
+        let parameters = parameters(random, 40, 4);
+        let board = honest(random, parameters, ALL_DRAWS[round % 4]);
+        let (record, n) = (board.record(), parameters.ballots());
+        for length in [n, n - 1, n + 1, 0] {
+            let noise = random.words(length);
+            let mut out = noise.clone();
+            let (answer, due) = match length == n {
+                true => (Ok(()), sorted(&board.inputs.votes)),
+                false => (Err(18), noise),
+            };
+            assert_eq!(announced_votes(&record, &mut out), answer);
+            assert_eq!(out, due);
+        }
+    }
+}
+
+/// The plain judge's number comes before 18.
+#[test]
+fn announced_by_damaged_boards() {
+    let random = &mut Random::new(48);
+    let mut met = BTreeSet::new();
+    for _ in 0..1_000 {
+        let (record, due) = damaged(random, 6, 2, Judging::Plain);
+        let length = random.index(8);
+        let noise = random.words(length);
+        let mut out = noise.clone();
+        assert_eq!(announced_votes(&record, &mut out), Err(due.number));
+        assert_eq!(out, noise);
+        met.insert(due.number);
+    }
+    assert!((1..=17).filter(|number| ![8, 12].contains(number)).eq(met));
+}
+
+#[test]
+fn tallies() {
+    let run = |votes: &[u32], lengths: [usize; 2]| {
+        let [mut values, mut counts] = lengths.map(|length| vec![77; length]);
+        (tally(votes, &mut values, &mut counts), values, counts)
+    };
+    assert_eq!(run(&[2, 5, 5], [3, 3]), (Ok(2), vec![2, 5, 77], vec![1, 2, 77]));
+    assert_eq!(run(&[], [0, 0]), (Ok(0), vec![], vec![]));
+    assert_eq!(run(&[0, 0, 0], [3, 3]), (Ok(1), vec![0, 77, 77], vec![3, 77, 77]));
+    assert_eq!(run(&[5, 2], [2, 3]).0, Err(18));
+    assert_eq!(run(&[5, 2], [1, 2]).0, Err(18));
+    assert_eq!(run(&[5, 5, 2], [3, 3]), (Err(15), vec![77; 3], vec![77; 3]));
+}
+
+/// Votes of any length, rising or not, into slices of any length.
+#[test]
+fn random_tallies() {
+    let random = &mut Random::new(49);
+    let mut answers = BTreeSet::new();
+    for _ in 0..3_000 {
+        let (length, bound) = (random.index(30), random.pick(&[1, 2, 5, 1_000, u32::MAX]));
+        let mut votes: Vec<u32> = (0..length).map(|_| random.number(bound)).collect();
+        if random.below(4) > 0 {
+            votes = sorted(&votes);
+        }
+        let lengths: [usize; 2] =
+            std::array::from_fn(|_| length + random.pick(&[0, 0, 0, 0, 0, 0, 1, 40]));
+        let noise = lengths.map(|length| random.words(length));
+        let [mut values, mut counts] = noise.clone();
+        let answer = tally(&votes, &mut values, &mut counts);
+        let pairs = answer.unwrap_or(0);
+        assert_eq!(values[pairs..], noise[0][pairs..]);
+        assert_eq!(counts[pairs..], noise[1][pairs..]);
+        assert!(answer.is_err() || counts[..pairs].iter().sum::<u32>() == length as u32);
+        assert!(values[..pairs].windows(2).all(|pair| pair[0] < pair[1]));
+        answers.insert(answer.err());
+    }
+    assert_eq!(answers, BTreeSet::from([None, Some(15), Some(18)]));
+}
+
+/// A fall at any place is found; so is a slice that is short by one.
+#[test]
+fn refused_tallies() {
+    let random = &mut Random::new(59);
+    for fall in 1..40 {
+        let mut votes: Vec<u32> = (10..50).collect();
+        votes[fall] = votes[fall - 1] - 1;
+        let noise = [40, 40].map(|length| random.words(length));
+        let [mut values, mut counts] = noise.clone();
+        assert_eq!(tally(&votes, &mut values, &mut counts), Err(15));
+        assert_eq!(tally(&votes, &mut values[1..], &mut counts), Err(18));
+        assert_eq!(tally(&votes, &mut values, &mut counts[..39]), Err(18));
+        assert_eq!([values, counts], noise);
+    }
+}
+
+#[test]
+fn tallies_of_many_votes() {
+    let votes: Vec<u32> = (0..1024).map(|j| (j / 3) * 0x0040_0401).collect();
+    for votes in [&votes[..], &[u32::MAX; 1024], &(0..1024).collect::<Vec<u32>>()] {
+        let (mut values, mut counts) = (vec![77; 1024], vec![78; 1024]);
+        let pairs = tally(votes, &mut values, &mut counts).unwrap();
+        let again: Vec<u32> =
+            (0..pairs).flat_map(|at| vec![values[at]; counts[at] as usize]).collect();
+        assert_eq!(again, votes);
+    }
+}

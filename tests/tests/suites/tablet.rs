@@ -1,0 +1,127 @@
+//! What the tablet answers and writes.
+
+use std::collections::BTreeSet;
+
+use crate::subject::tablet;
+use paddockyear_tests::boards::calls::misuse::{check_each, check_pairs, misuse_at_random};
+use paddockyear_tests::boards::calls::tablet::TabletCall;
+use paddockyear_tests::boards::{honest, parameters, MODULI, NEITHER};
+use paddockyear_tests::random::Random;
+use paddockyear_tests::reference::receipt::{check_receipt, Posted};
+use paddockyear_tests::reference::tablet::SplitVote;
+
+/// Runs the call; a refusal leaves both buffers as they were.
+fn answer(mut call: TabletCall) -> u8 {
+    let before = (call.command.clone(), call.receipt.clone());
+    let TabletCall { modulus, id, split, keys, command, receipt } = &mut call;
+    let answer = tablet(*modulus, *id, split, keys, command, receipt);
+    assert!(answer.is_ok() || (call.command, call.receipt) == before);
+    answer.map_or_else(|number| number, |()| 0)
+}
+
+#[test]
+fn honest_ballots() {
+    let random = &mut Random::new(65);
+    for _ in 0..2_000 {
+        assert_eq!(answer(TabletCall::honest(random)), 0);
+    }
+}
+
+/// Numbers at both ends of their range, in every combination.
+#[test]
+fn numbers_at_the_limits() {
+    let random = &mut Random::new(66);
+    for modulus in MODULI {
+        for ends in 0..64 {
+            let [vote, x, y, u1, u2, u3] =
+                std::array::from_fn(|slot| if ends >> slot & 1 == 0 { 0 } else { modulus - 1 });
+            let split = SplitVote { vote, shares: [x, y], firsts: [u1, u2, u3] };
+            assert_eq!(answer(TabletCall { modulus, split, ..TabletCall::honest(random) }), 0);
+        }
+    }
+}
+
+#[test]
+fn ids_at_the_limits() {
+    let random = &mut Random::new(67);
+    for id in [0, 1, 255, 256, 65_536, 1 << 24, u32::MAX] {
+        assert_eq!(answer(TabletCall { id, ..TabletCall::honest(random) }), 0);
+    }
+}
+
+#[test]
+fn every_misuse() {
+    let random = &mut Random::new(68);
+    for _ in 0..20 {
+        check_each(&TabletCall::honest(random), answer);
+    }
+}
+
+#[test]
+fn every_pair_of_misuses() {
+    let random = &mut Random::new(69);
+    for _ in 0..20 {
+        check_pairs(&TabletCall::honest(random), answer);
+    }
+}
+
+#[test]
+fn random_ballots() {
+    let random = &mut Random::new(70);
+    let mut answers = BTreeSet::new();
+    for _ in 0..1_000 {
+        let mut call = TabletCall::honest(random);
+        misuse_at_random(random, &mut call);
+        answers.insert(answer(call));
+    }
+    assert_eq!(answers, BTreeSet::from([0, 3, 10, 18]));
+}
+
+#[test]
+fn tablet_refusals() {
+    let split = SplitVote { vote: 24, shares: [50, 60], firsts: [7, 99, 30] };
+    let run = |modulus, split: &SplitVote, keys: usize, command: usize, receipt: usize| {
+        let (mut command, mut receipt) = (vec![7; command], vec![7; receipt]);
+        let answer = tablet(modulus, 5, split, &vec![1; keys], &mut command, &mut receipt);
+        let untouched = command.iter().chain(&receipt).all(|&byte| byte == 7);
+        assert_eq!(answer.is_err(), untouched);
+        answer
+    };
+    assert_eq!(run(100, &split, 192, 197, 32), Ok(()));
+    assert_eq!(run(1, &split, 191, 197, 32), Err(3));
+    assert_eq!(run(0, &split, 192, 197, 32), Err(3));
+    for (keys, command, receipt) in [(191, 197, 32), (192, 196, 32), (192, 197, 33)] {
+        assert_eq!(run(50, &split, keys, command, receipt), Err(18));
+    }
+    assert_eq!(run(99, &split, 192, 197, 32), Err(10));
+    for slot in 0..6 {
+        let mut given = [0; 6];
+        given[slot] = 2;
+        let [vote, x, y, u1, u2, u3] = given;
+        let split = SplitVote { vote, shares: [x, y], firsts: [u1, u2, u3] };
+        assert_eq!(run(2, &split, 192, 197, 32), Err(10));
+        assert_eq!(run(3, &split, 192, 197, 32), Ok(()));
+    }
+}
+
+/// The tablet writes what part one has for the ballot.
+#[test]
+fn tablet_writes_the_ballot() {
+    let random = &mut Random::new(38);
+    for _ in 0..50 {
+        let parameters = parameters(random, 5, 2);
+        let board = honest(random, parameters, NEITHER);
+        let inputs = &board.inputs;
+        for ballot in 0..parameters.ballots() {
+            let [x, y, u1, u2, u3] = inputs.numbers[5 * ballot..][..5].try_into().unwrap();
+            let vote = inputs.votes[ballot];
+            let split = SplitVote { vote, shares: [x, y], firsts: [u1, u2, u3] };
+            let keys = &inputs.keys[192 * ballot..][..192];
+            let (mut command, mut receipt) = ([0; 197], [0; 32]);
+            let id = inputs.ids[ballot];
+            tablet(parameters.modulus, id, &split, keys, &mut command, &mut receipt).unwrap();
+            assert_eq!(command, board.parts[0][8 + 197 * ballot..][..197]);
+            assert_eq!(check_receipt(&board.record(), &receipt), Ok(Posted::AsPrinted));
+        }
+    }
+}
