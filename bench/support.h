@@ -1,0 +1,33 @@
+/* What the benchmarks and the check share. */
+
+#ifndef SUPPORT_H
+#define SUPPORT_H
+
+#include <stddef.h>
+#include <stdint.h>
+
+/* Ends the program with this line unless it holds. */
+void demand(int holds, const char *what);
+
+/* The processor's time, so that other programs weigh little. */
+double seconds(void);
+
+struct verdict {
+    int number;
+    size_t place;
+};
+
+/* A board with the reference's verdicts in plain and in drawn judging. */
+struct posted {
+    uint8_t *record;
+    size_t length;
+    struct verdict due[2];
+};
+
+/* The next board from standard input, which the caller frees; 0 at the end. Each has its length in
+ * 8 bytes, most significant first, then for plain and for drawn judging a number in 1 byte and a
+ * place in 8, then the record. */
+int read_board(struct posted *board);
+void free_board(struct posted *board);
+
+#endif
