@@ -1,7 +1,6 @@
 // The scrutineer's program: reads a record from standard input, judges it as drawn and writes the page of document 01. It decides nothing:
 // verdict, votes and tally are answers of proved functions.
 ghost use mathlib.Core.Path.{_≡_};
-ghost use Prim.Native.Nat.{_≤_};
 ghost use lib.ListN.{length};
 use libc::STDIN_FILENO;
 use libc::STDOUT_FILENO;
@@ -40,9 +39,7 @@ fn print_lines(values: &[u32], counts: &[u32], pairs: usize) {
 }
 
 // The tally of the votes that an accepted record announces, by way of three slices of one number a ballot.
-fn print_tally(bytes: &[u8], votes: &mut [u32], values: &mut [u32], counts: &mut [u32])
-    requires { ⌜ length (now votes) ≤ 1024 ⌝ }
-{
+fn print_tally(bytes: &[u8], votes: &mut [u32], values: &mut [u32], counts: &mut [u32]) {
     match results::announced_votes(bytes, votes) {
         Written::Refused(_) => {}
         Written::Done => match tally::tally(votes, values, counts) {

@@ -45,7 +45,7 @@ slice-aggregate-print-tally-3 : tie.Need-slice-aggregate-print-tally-3
 slice-aggregate-print-tally-3 c = simp length-take (omega arith)
 
 print-tally-requires : tie.Need-print-tally-requires
-print-tally-requires c κs = simp length-take (omega arith)
+print-tally-requires c κs = search needs
 
 returns-2 : tie.Need-returns-2
 returns-2 c = search needs
