@@ -1,13 +1,12 @@
 -- A list that stands in a longer one, at a place.
 use mathlib.Core.Path.{_≡_, refl, sym, ap, ap₂, _∙_}
 use mathlib.Core.Logic.{_⊎_, inl, inr}
-use mathlib.Core.List.{List, [], _∷_, _++_, append-assoc, append-nil}
+use mathlib.Core.List.{List, [], _++_, append-assoc, append-nil}
 use Prim.Native.Nat.{ℕ, zero, suc, _+_, _-_, _*_, _≤_, _<_}
-use native.Mathlib.Nat.{not-suc-le-zero, le-refl, eq-or-lt-of-le, le-of-suc-le-suc, zero-add, add-zero, le-of-lt}
+use native.Mathlib.Nat.{not-suc-le-zero, eq-or-lt-of-le, le-of-suc-le-suc, add-zero, le-of-lt}
 use native.Mathlib.Omega.{arith}
-use lib.ListN.{length, getD, take, drop, length-append, List·getD-append}
+use lib.ListN.{length, getD, length-append, List·getD-append}
 use lib.Seq.{getD-append-add, take-length}
-use Rattle.laws.specs.Sums.{sum}
 use Rattle.laws.specs.Bytes.{number}
 use Rattle.laws.specs.Chunks.{piece, piece-left, piece-right, get-piece, chunks, start, chunks-length, start-even}
 
@@ -53,10 +52,6 @@ at-chunk {c} {a} f (suc n) j l h = go (eq-or-lt-of-le (le-of-suc-le-suc l)) (λ 
     go (inr k) ih = at-left (f n) (ih k)
 
 -- ---- what is read there
-
-pub at-length : {r c : List ℕ} {a : ℕ} → At r a c → a + length c ≤ length r
-at-length {r} {c} h =
-    omega (arith, ap length (h .split), length-append (h .front) (c ++ h .back), length-append c (h .back), h .place)
 
 pub at-get : {r c : List ℕ} {a : ℕ} → At r a c → (o : ℕ) → o < length c → getD r (a + o) 0 ≡ getD c o 0
 at-get {r} {c} {a} h o l =

@@ -2,7 +2,7 @@
 use mathlib.Core.Path.{_≡_, refl, sym, ap, ap₂, _∙_}
 use mathlib.Core.List.{List, [], _∷_, _++_}
 use Prim.Native.Nat.{ℕ, zero, suc, _+_, _-_, _*_, _/_, _%_, _^_, _≤_, _<_}
-use native.Mathlib.Nat.{div-add-mod', div-lt-iff-lt-mul, mod-lt, mul-comm}
+use native.Mathlib.Nat.{div-add-mod', div-lt-iff-lt-mul}
 use native.Mathlib.Omega.{arith}
 use lib.Arith.{lt-one}
 use lib.ListN.{length, getD, take, drop, length-append, length-drop, List·getD-append}
@@ -46,12 +46,6 @@ number-bytes (suc w) x h =
     let f : getD (front ++ (x % 256 ∷ [])) (0 + w) 0 ≡ x % 256 = getD-at front (x % 256) [] 0 (0 + w) (omega (arith, length-bytes w (x / 256))) in
     let small : x / 256 < 256 ^ w = div-lt-iff-lt-mul {k = 256} {x = x} {y = 256 ^ w} (omega arith) .1 (omega arith) in
     ap₂ (λ (p q : ℕ). p * 256 + q) (e ∙ number-bytes w (x / 256) small) f ∙ div-add-mod' x 256
-
--- a number read is below 256 ^ w
-pub number-small : (r : List ℕ) (a w : ℕ) → ((i : ℕ) → i < w → getD r (a + i) 0 < 256) → number r a w < 256 ^ w
-unfolding number
-number-small r a zero h = omega arith
-number-small r a (suc w) h = omega (arith, number-small r a w (λ i l. h i (omega arith)), h w (omega arith))
 
 -- of two lists that begin alike the same number is read there
 pub number-same : (r s : List ℕ) (d a w : ℕ) → take d r ≡ take d s → a + w ≤ d → number r a w ≡ number s a w

@@ -1,12 +1,11 @@
 -- Pieces joined, of any lengths: where piece j stands.
 use mathlib.Core.Path.{_≡_, refl, sym, ap, ap₂, _∙_}
-use mathlib.Core.Logic.{_⊎_, inl, inr}
-use mathlib.Core.List.{List, [], _∷_, _++_, append-assoc, append-nil}
+use mathlib.Core.List.{List, [], _∷_, _++_}
 use Prim.Native.Nat.{ℕ, zero, suc, _+_, _-_, _*_, _≤_, _<_}
-use native.Mathlib.Nat.{not-suc-le-zero, le-refl, eq-or-lt-of-le, le-of-suc-le-suc, zero-add, suc-add}
+use native.Mathlib.Nat.{le-refl, zero-add, suc-add}
 use native.Mathlib.Omega.{arith}
 use lib.ListN.{length, getD, take, drop, length-append, length-drop}
-use lib.Seq.{length-take-le, take-at, drop-at, drop-drop, take-take, take-nil, drop-append-add, drop-append-le, take-append-le, getD-drop, getD-take}
+use lib.Seq.{length-take-le, drop-drop, take-take, take-nil, drop-append-add, drop-append-le, take-append-le, getD-drop, getD-take}
 use Rattle.laws.specs.Tests.{choose}
 use Rattle.laws.specs.Sums.{sum}
 use Rattle.laws.specs.Masks.{bit, setBefore, clearBefore}
@@ -29,24 +28,6 @@ start f j = sum (λ i. length (f i)) j
 pub chunks-length : (f : ℕ → List ℕ) (n : ℕ) → length (chunks f n) ≡ start f n
 chunks-length f zero = refl
 chunks-length f (suc n) = length-append (chunks f n) (f n) ∙ ap (λ (x : ℕ). x + length (f n)) (chunks-length f n)
-
--- what follows the first j chunks begins with chunk j
-chunks-drop : (f : ℕ → List ℕ) (n j : ℕ) → j < n → (rest : List ℕ) → (after : List ℕ) × (drop (start f j) (chunks f n ++ rest) ≡ f j ++ after)
-chunks-drop f zero j l rest = absurd (not-suc-le-zero l)
-chunks-drop f (suc n) j l rest = go (eq-or-lt-of-le (le-of-suc-le-suc l)) (λ k. chunks-drop f n j k (f n ++ rest))
-  where
-    here : chunks f (suc n) ++ rest ≡ chunks f n ++ (f n ++ rest)
-    here = append-assoc (chunks f n) (f n) rest
-
-    go : (j ≡ n) ⊎ (j < n) → (j < n → (after : List ℕ) × (drop (start f j) (chunks f n ++ (f n ++ rest)) ≡ f j ++ after))
-        → (after : List ℕ) × (drop (start f j) (chunks f (suc n) ++ rest) ≡ f j ++ after)
-    go (inl e) ih = (rest, rw (e, here) (drop-at (chunks f n) (f n ++ rest) (start f n) (chunks-length f n)))
-    go (inr k) ih = let (after, e) = ih k in (after, rw here e)
-
-pub chunks-piece : (f : ℕ → List ℕ) (n j w : ℕ) → j < n → length (f j) ≡ w → (rest : List ℕ) → piece (chunks f n ++ rest) (start f j) w ≡ f j
-chunks-piece f n j w l e rest =
-    let (after, d) = chunks-drop f n j l rest in
-    rw d (take-at (f j) after w e)
 
 -- chunks of one width
 pub start-even : (f : ℕ → List ℕ) (w n : ℕ) → ((j : ℕ) → j < n → length (f j) ≡ w) → (j : ℕ) → j ≤ n → start f j ≡ j * w
@@ -114,21 +95,6 @@ piece-join l a v w =
     take-join zero w l = ap (λ (k : ℕ). take k l) (sym (zero-add w))
     take-join (suc v) w [] = take-nil w ∙ sym (take-nil (suc v + w))
     take-join (suc v) w (x ∷ xs) = ap (λ (l : List ℕ). x ∷ l) (take-join v w xs) ∙ ap (λ (k : ℕ). take k (x ∷ xs)) (sym (suc-add v w))
-
--- chunks that are the pieces from a on, one behind the other
-pub chunks-pieces : (r : List ℕ) (f : ℕ → List ℕ) (a : ℕ) (at : ℕ → ℕ) (n : ℕ) → at 0 ≡ a
-    → ((j : ℕ) → j < n → at j ≤ at (suc j)) → ((j : ℕ) → j < n → f j ≡ piece r (at j) (at (suc j) - at j)) → chunks f n ≡ piece r a (at n - a)
-chunks-pieces r f a at zero e rise h = let z : at 0 - a ≡ 0 = omega arith in rw z
-chunks-pieces r f a at (suc n) e rise h =
-    let low : a ≤ at n = low-of n (λ j l. rise j (omega arith)) in
-    let p : a + (at n - a) ≡ at n = omega arith in
-    let q : at n - a + (at (suc n) - at n) ≡ at (suc n) - a = omega (arith, rise n (le-refl (suc n))) in
-    ap₂ (λ (x y : List ℕ). x ++ y) (chunks-pieces r f a at n e (λ j l. rise j (omega arith)) (λ j l. h j (omega arith))) (h n (le-refl (suc n)) ∙ ap (λ (k : ℕ). piece r k (at (suc n) - at n)) (sym p))
-    ∙ piece-join r a (at n - a) (at (suc n) - at n) ∙ ap (λ (k : ℕ). piece r a k) q
-  where
-    low-of : (n : ℕ) → ((j : ℕ) → j < n → at j ≤ at (suc j)) → a ≤ at n
-    low-of zero rise = omega arith
-    low-of (suc n) rise = omega (arith, low-of n (λ j l. rise j (omega arith)), rise n (le-refl (suc n)))
 
 -- ---- a piece that lies inside
 

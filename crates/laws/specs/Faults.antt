@@ -2,7 +2,7 @@
 use mathlib.Core.Path.{_≡_, refl, sym, ap, _∙_}
 use mathlib.Core.Bool.{Bool, true, false}
 use mathlib.Core.Logic.{_↔_, _≢_, _⊎_, inl, inr}
-use Prim.Native.Nat.{ℕ, zero, suc, _+_, _≤_, _<_}
+use Prim.Native.Nat.{ℕ, zero, suc, _+_, _<_}
 use native.Mathlib.Nat.{not-suc-le-zero, le-refl, eq-or-lt-of-le, le-of-suc-le-suc}
 use native.Mathlib.Numerals.{add-one}
 use native.Mathlib.Omega.{arith}
@@ -136,12 +136,6 @@ pub number-located : (place k : ℕ) → numberOf (located place k) ≡ k
 unfolding numberOf located
 number-located place zero = refl
 number-located place (suc k) = refl
-
--- a number is found exactly if a fault is: no fault has number 0
-pub number-then : (a b : Found) → numberOf a ≢ 0 → numberOf (a then b) ≡ numberOf a
-unfolding numberOf _then_
-number-then Nothing b ne = absurd (ne refl)
-number-then (Fault k place) b ne = refl
 
 -- ---- a search by these means finds no fault with number 0
 

@@ -1,5 +1,5 @@
 -- Masks: bits, ranks, and two masks with as many ones: where they differ, some bit is set in the first alone.
-use mathlib.Core.Path.{_≡_, refl, sym, ap, ap₂, _∙_}
+use mathlib.Core.Path.{_≡_, refl, sym, ap, _∙_}
 use mathlib.Core.Logic.{_↔_, _≢_}
 use Prim.Native.Nat.{ℕ, zero, suc, _+_, _-_, _*_, _/_, _%_, _^_, _≤_, _<_}
 use native.Mathlib.Nat.{div-one}
@@ -9,7 +9,7 @@ use native.Mathlib.Omega.{arith}
 use lib.Arith.{lt-one}
 use lib.Pow.{shr-shr, pow-pos}
 use lib.Count.{ones, ones-step}
-use Rattle.laws.specs.Sums.{sum, sum-same}
+use Rattle.laws.specs.Sums.{sum}
 
 -- bit i of a mask
 abbrev pub bit : ℕ → ℕ → ℕ

@@ -1,7 +1,7 @@
 -- Sums and differences modulo M. Two laws reduce every fact about `a % M ≡ b % M` to `omega`: `cong` and `out`.
-use mathlib.Core.Path.{_≡_, refl, sym, ap, ap₂, _∙_}
-use Prim.Native.Nat.{ℕ, zero, suc, _+_, _-_, _*_, _/_, _%_, _≤_, _<_}
-use native.Mathlib.Nat.{mod-add-mod, add-mod-mod, add-mod-right, mod-eq-of-lt, mod-lt, mod-mod, div-add-mod', add-mul-mod-self-right, le-of-lt}
+use mathlib.Core.Path.{_≡_, sym, ap, _∙_}
+use Prim.Native.Nat.{ℕ, _+_, _-_, _*_, _/_, _%_, _≤_, _<_}
+use native.Mathlib.Nat.{mod-add-mod, add-mod-right, mod-eq-of-lt, mod-lt, div-add-mod', add-mul-mod-self-right}
 use native.Mathlib.Omega.{arith}
 
 -- a + b modulo M
@@ -21,10 +21,7 @@ cong M a b k l e = sym (add-mul-mod-self-right a k M) ∙ ap (λ (x : ℕ). x % 
 pub out : (M a b : ℕ) → a % M ≡ b % M → a + b / M * M ≡ b + a / M * M
 out M a b h = omega (arith, div-add-mod' a M, div-add-mod' b M)
 
--- one summand more, and one less
-pub add-cong : (M a b t : ℕ) → a % M ≡ b % M → (a + t) % M ≡ (b + t) % M
-add-cong M a b t p = cong M (a + t) (b + t) (b / M) (a / M) (omega (arith, out M a b p))
-
+-- one summand less
 pub cancel : (M a b t : ℕ) → (a + t) % M ≡ (b + t) % M → a % M ≡ b % M
 cancel M a b t p = cong M a b ((b + t) / M) ((a + t) / M) (omega (arith, out M (a + t) (b + t) p))
 

@@ -6,8 +6,8 @@ use native.Mathlib.Numerals.{add-one}
 use native.Mathlib.Decide.{ℕ-discrete}
 use native.Mathlib.Nat.{mul-le-mul-right, suc-mul}
 use native.Mathlib.Omega.{arith}
-use lib.ListN.{length, getD, set, take, drop, length-append, length-take, length-drop, take-append-drop}
-use lib.Seq.{take-at, drop-at, drop-drop, length-take-le, take-append-le, drop-append-add, set-split, take-length, drop-length, take-suc}
+use lib.ListN.{length, getD, set, take, drop, length-append, length-drop, take-append-drop}
+use lib.Seq.{take-at, drop-at, drop-drop, length-take-le, set-split, drop-length, take-suc}
 use Rattle.laws.specs.Chunks.{chunks}
 
 -- l, with v in the place of what stood from a on
@@ -55,11 +55,6 @@ put-more l a b v w e h =
     ∙ append-assoc (take a l) v (w ++ drop (a + length (v ++ w)) l)
     ∙ ap (λ (x : List ℕ). take a l ++ x) (sym (append-assoc v w (drop (a + length (v ++ w)) l)))
 
--- one more chunk
-pub put-chunk : (l : List ℕ) (a b : ℕ) (f : ℕ → List ℕ) (j : ℕ) → b ≡ a + length (chunks f j) → b + length (f j) ≤ length l
-    → put (put l a (chunks f j)) b (f j) ≡ put l a (chunks f (j + 1))
-put-chunk l a b f j e h = put-more l a b (chunks f j) (f j) e h ∙ ap (λ (k : ℕ). put l a (chunks f k)) (sym (add-one j))
-
 -- one byte more
 pub put-snoc : (l : List ℕ) (a b : ℕ) (v : List ℕ) (x : ℕ) → b ≡ a + length v → b < length l → set (put l a v) b x ≡ put l a (v ++ (x ∷ []))
 put-snoc l a b v x e h =
@@ -76,12 +71,6 @@ put-take l l' a i v p h k =
 -- stores one after another
 pub put-two : (l : List ℕ) (a x y : ℕ) → a + 2 ≤ length l → set (set l a x) (a + 1) y ≡ put l a (x ∷ y ∷ [])
 put-two l a x y h = ap (λ (k : List ℕ). set k (a + 1) y) (put-set l a x (omega arith)) ∙ put-snoc l a (a + 1) (x ∷ []) y refl (omega arith)
-
-pub put-four : (l : List ℕ) (a x y z w : ℕ) → a + 4 ≤ length l → set (set (set (set l a x) (a + 1) y) (a + 2) z) (a + 3) w ≡ put l a (x ∷ y ∷ z ∷ w ∷ [])
-put-four l a x y z w h =
-    ap (λ (k : List ℕ). set (set k (a + 2) z) (a + 3) w) (put-two l a x y (omega arith))
-    ∙ ap (λ (k : List ℕ). set k (a + 3) w) (put-snoc l a (a + 2) (x ∷ y ∷ []) z refl (omega arith))
-    ∙ put-snoc l a (a + 3) (x ∷ y ∷ z ∷ []) w refl (omega arith)
 
 -- a call that puts w behind what was put before
 pub put-then : (l l' : List ℕ) (a b : ℕ) (v w : List ℕ) → l' ≡ put l a v → b ≡ a + length v → b + length w ≤ length l → put l' b w ≡ put l a (v ++ w)
@@ -145,18 +134,6 @@ pub row-within : (l k n : ℕ) → l < k → l * n + n ≤ k * n
 row-within l k n h =
     let e : suc l * n ≤ k * n = mul-le-mul-right n h in
     omega (arith, suc-mul l n)
-
--- a turn that puts nothing
-pub idle : {l out : List ℕ} {a : ℕ} (f : ℕ → List ℕ) (j : ℕ) → Wrote l a (chunks f j) out → f j ≡ [] → Wrote l a (chunks f (j + 1)) out
-idle {l} {out} {a} f j h e =
-    let q : chunks f (suc j) ≡ chunks f j = ap (λ (x : List ℕ). chunks f j ++ x) e ∙ append-nil (chunks f j) in
-    rw (add-one j) (same h (sym q))
-
-pub chunks-long : (f : ℕ → List ℕ) (j : ℕ) → length (chunks f (j + 1)) ≡ length (chunks f j) + length (f j)
-chunks-long f j = ap (λ (k : ℕ). length (chunks f k)) (add-one j) ∙ length-append (chunks f j) (f j)
-
-pub row-next : (l n : ℕ) → (l + 1) * n ≡ l * n + n
-row-next l n = ap (λ (k : ℕ). k * n) (add-one l) ∙ suc-mul l n
 
 -- ---- writers that answer the next place: no width is ever named
 pub record Went (l : List ℕ) (a : ℕ) (v out : List ℕ) (r : ℕ) : Type 0 where

@@ -11,7 +11,7 @@ use Rattle.protocol.specs.Tablet.{share}
 use Rattle.protocol.specs.Columns.{row, source}
 use Rattle.protocol.specs.Inputs.{Slices, ballotNumbers, listNumbers, listPermutations, inputsOf}
 use Rattle.protocol.specs.Servers.{ballotRow, rowOffset, column, mixed, sourceOf, linkPosition, sumOfHalves, linkShift}
-use Rattle.mixing.specs.Lists.{shareAt, Rows, rowsAt, permutationAt, offsetAt, columnAt, throughAt, mixedAt, ListGiven, sourceAt, sumOfItems}
+use Rattle.mixing.specs.Lists.{shareAt, Rows, permutationAt, offsetAt, columnAt, throughAt, mixedAt, sourceAt, sumOfItems}
 
 module _ (s : Slices) where
   -- row k of the ballots
@@ -42,16 +42,6 @@ module _ (s : Slices) where
   pub ballot-rows : {out : List ℕ} → Rows (s .modulus) (s .ballots) (shareAt (s .modulus) (s .votes) (s .numbers)) out
       → Rows (s .modulus) (s .ballots) (ballotRow (inputsOf s)) out
   ballot-rows h = record { long = h .long; is = λ k j lk lj. h .is k j lk lj ∙ share-is k j; small = h .small }
-
-  pub mixed-rows : (l : ℕ) {rows mine permutations out : List ℕ} → mine ≡ listNumbers s l → permutations ≡ listPermutations s l
-      → ListGiven (s .modulus) (s .ballots) mine permutations → Rows (s .modulus) (s .ballots) (ballotRow (inputsOf s)) rows
-      → Rows (s .modulus) (s .ballots) (mixedAt (s .modulus) (s .ballots) (rowsAt (s .ballots) rows) mine permutations) out
-      → Rows (s .modulus) (s .ballots) (mixed (inputsOf s) l) out
-  mixed-rows l {rows} em ep ready before h = record {
-    long = h .long;
-    is = λ k i lk li. h .is k i lk li ∙ mixed-is l (rowsAt (s .ballots) rows) em ep (ready .places) k (λ j lj. before .is k j lk lj) i li;
-    small = h .small;
-  }
 
   -- the place of ballot j in list l
   pub position-is : (l j : ℕ) {permutations : List ℕ} → permutations ≡ listPermutations s l

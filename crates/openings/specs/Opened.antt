@@ -25,6 +25,7 @@ pub record Openings (r : List ℕ) (at posted step k : ℕ) : Type 0 where
   pub opened : at + 36 * k ≤ length r
   pub committed : (i : ℕ) → i < k → posted + step * i + 32 ≤ length r
 
+-- a command 07 in its place, the text being there where the side is drawn
 pub record BallotHalfReady (p : Parameters) (r : List ℕ) (at j : ℕ) (drawn : Bool) (q : List ℕ) : Type 0 where
   pub few : Few p
   pub ballot : j < p .ballots
@@ -32,6 +33,7 @@ pub record BallotHalfReady (p : Parameters) (r : List ℕ) (at j : ℕ) (drawn :
   pub whole : at + 112 ≤ length r
   pub text : drawn ≡ true → q ≡ challenge (secondDiceOf p r) (take (atSecondDice p) r)
 
+-- a command 08 in its place, behind links and a ballot half that stand
 pub record ListHalfReady (p : Parameters) (r : List ℕ) (at l j rank : ℕ) : Type 0 where
   pub few : Few p
   pub list : l < lists p
@@ -58,6 +60,7 @@ pub record PermutesReady (r : List ℕ) (at announced modulus values votes : ℕ
   pub votes-whole : announced + 7 * values ≤ length r
   pub rise : (i : ℕ) → suc i < values → number r (announced + 7 * i + 3) 4 ≤ number r (announced + 7 * suc i + 3) 4
 
+-- a command 0A in its place, behind votes that rise and the list's earlier openings
 pub record FullReady (p : Parameters) (r : List ℕ) (at l i : ℕ) : Type 0 where
   pub few : Few p
   pub list : l < lists p

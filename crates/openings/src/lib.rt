@@ -194,6 +194,7 @@ fn permutes_with(
     sorting::is_permutation(values, votes)
 }
 
+// .. with room for both.
 fn list_permutes(bytes: &[u8], at: usize, announced: usize, modulus: u32, n: usize) -> bool
     requires { ⌜ PermutesReady (now bytes) at announced modulus n n ⌝ }
     ensures { λ r. ⌜ r ≡ permutes (λ i. sumOfSix modulus (openingAt (now (bytes .entry)) (at + 220 * i + 4))) (λ i. number (now (bytes .entry)) (announced + 7 * i + 3) 4) n ⌝ }

@@ -1,7 +1,5 @@
 // The command reader: each command byte leads to its own rule, and every byte not due is refused.
 ghost use mathlib.Core.Path.{_≡_};
-ghost use Prim.Native.Nat.{_+_, _≤_};
-ghost use lib.ListN.{length};
 ghost use Rattle.protocol.specs.Rules.{placeOf, fault};
 ghost use Rattle.reader.specs.Ready.{Ready};
 use protocol::Due;

@@ -5,7 +5,7 @@ ghost use Prim.Native.Nat.{_+_, _*_, _≤_, _<_};
 ghost use lib.ListN.{length};
 ghost use Rattle.laws.specs.Chunks.{piece};
 ghost use Rattle.protocol.specs.Terms.{mostBallots};
-ghost use Rattle.protocol.specs.Layout.{atBallot, atEntry, atFirstDice, atSecondDice, atVote};
+ghost use Rattle.protocol.specs.Layout.{atBallot, atEntry, atSecondDice, atVote};
 ghost use Rattle.protocol.specs.Record.{linkPlace};
 ghost use Rattle.protocol.specs.Rules.{fairDice, rightShape, firstRules, ballotRules, entryRules, firstDiceRules, linkRules, secondDiceRules, voteRules};
 ghost use Rattle.rules.specs.Marks.{FirstDiceReady, Marked};

@@ -1,32 +1,20 @@
--- Laws of squeezing: the length and the bytes of what comes out, and the loop that writes them. Assumes nothing.
+-- Laws of squeezing: the length of what comes out, and the loop that writes them. Assumes nothing.
 use mathlib.Core.Path.{_≡_, refl, sym, ap, _∙_}
 use mathlib.Core.List.{List, [], _∷_, _++_, append-assoc, append-nil}
 use Prim.Native.Nat.{ℕ, zero, suc, _+_, _*_, _/_, _%_, _^_, _<_}
-use native.Mathlib.Nat.{add-zero, add-suc, mod-lt, zero-lt-suc}
+use native.Mathlib.Nat.{add-zero, add-suc}
 use native.Mathlib.Numerals.{add-one}
 use native.Mathlib.Omega.{arith}
 use lib.ListN.{length, getD, set, take, drop, length-append}
 use lib.Seq.{drop-cons, drop-length, set-at, take-all, take-append-le}
 use lib.Bits.{bitAnd, and-mask}
 use Rattle.keccak.specs.Keccak.{at}
-use Rattle.sha3.specs.Sha3.{Bytes, byteAt, squeeze}
+use Rattle.sha3.specs.Sha3.{byteAt, squeeze}
 
 pub length-squeeze : (l : List ℕ) (n : ℕ) → length (squeeze l n) ≡ n
 unfolding squeeze
 length-squeeze l zero = refl
 length-squeeze l (suc n) = simp (length-append, length-squeeze l n) (omega arith)
-
--- one byte more
-bytes-more : (xs : List ℕ) {x : ℕ} → Bytes xs → x < 256 → Bytes (xs ++ (x ∷ []))
-bytes-more [] h b zero = b
-bytes-more [] h b (suc i) = zero-lt-suc 255
-bytes-more (y ∷ ys) h b zero = h 0
-bytes-more (y ∷ ys) h b (suc i) = bytes-more ys (λ j. h (suc j)) b i
-
-pub bytes-squeeze : (l : List ℕ) (n : ℕ) → Bytes (squeeze l n)
-unfolding squeeze byteAt
-bytes-squeeze l zero i = zero-lt-suc 255
-bytes-squeeze l (suc n) i = bytes-more (squeeze l n) (bytes-squeeze l n) (mod-lt (at l (n / 8) / 2 ^ (n % 8 * 8)) (zero-lt-suc 255)) i
 
 -- fewer bytes are the first of more
 pub take-squeeze : (l : List ℕ) (d k : ℕ) → take d (squeeze l (d + k)) ≡ squeeze l d

@@ -3,8 +3,7 @@ use mathlib.Core.Path.{_≡_, refl, sym, ap, ap₂, _∙_, subst}
 use mathlib.Core.Bool.{Bool}
 use mathlib.Core.List.{List, [], _∷_, _++_}
 use Prim.Native.Nat.{ℕ, _+_, _*_, _/_, _%_, _≤_, _<_}
-use mathlib.Core.Logic.{_⊎_, inl, inr}
-use native.Mathlib.Nat.{not-suc-le-zero, eq-or-lt-of-le}
+use native.Mathlib.Nat.{not-suc-le-zero}
 use native.Mathlib.Numerals.{add-one}
 use native.Mathlib.Omega.{arith}
 use lib.ListN.{length, set, take, drop, take-append-drop}
@@ -69,15 +68,3 @@ module _ (rate : ℕ) where
   pub start-fill : {s : Sponge} → s ≡ empty → Rate rate → s .fill < rate
   unfolding empty
   start-fill e R = subst (λ (s : Sponge). s .fill < rate) (sym e) (R .some)
-
-  turn-fill : (l : List ℕ) (n : ℕ) → 0 < rate → (n ≡ rate) ⊎ (n < rate) → turn rate l n .fill < rate
-  turn-fill l n h (inl e) = rw (turn-full l n e) h
-  turn-fill l n h (inr f) = rw (turn-more l n (λ e. omega arith)) f
-
-  -- the fill stays below the rate
-  pub absorb-fill : (s : Sponge) (p : List ℕ) → s .fill < rate → absorbBytes rate s p .fill < rate
-  unfolding absorbBytes absorbByte
-  absorb-fill s [] h = h
-  absorb-fill s (b ∷ p) h =
-      absorb-fill (absorbByte rate s b) p
-      (turn-fill (xorByte (s .lanes) (s .fill) b) (s .fill + 1) (omega arith) (eq-or-lt-of-le (omega arith)))

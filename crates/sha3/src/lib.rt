@@ -1,5 +1,6 @@
 // SHA3-224 and SHA3-256 of FIPS 202, section 6.1, and the sponge that they share, over the rate in bytes.
 ghost use mathlib.Core.Path.{_≡_};
+ghost use mathlib.Core.List.{_++_};
 ghost use Prim.Native.Nat.{_+_, _≤_, _<_};
 ghost use lib.ListN.{length};
 ghost use Rattle.sha3.specs.Sha3.{Rate, xorByte, absorbBytes, empty, padded, squeeze, digest, sha3-224, sha3-256};
@@ -98,6 +99,18 @@ fn hash(rate: usize, m: &[u8], out: &mut [u8])
     let s = start();
     let t = absorb(s, rate, m);
     finish(t, rate, out);
+}
+
+// The digest, as long as `out`, of a message in three parts.
+pub fn hash_parts(rate: usize, a: &[u8], b: &[u8], c: &[u8], out: &mut [u8])
+    requires { ⌜ Rate rate × (length (now out) ≤ rate) ⌝ }
+    ensures { λ _. ⌜ now (out .exit) ≡ digest rate (length (now (out .entry))) (now (a .entry) ++ (now (b .entry) ++ now (c .entry))) ⌝ }
+{
+    let s = start();
+    let t = absorb(s, rate, a);
+    let u = absorb(t, rate, b);
+    let v = absorb(u, rate, c);
+    finish(v, rate, out);
 }
 
 // SHA3-224 of m.

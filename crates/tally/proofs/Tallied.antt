@@ -14,7 +14,7 @@ use Rattle.laws.specs.Writing.{put, put-length, put-set, put-snoc, Wrote, wrote
 use Rattle.protocol.specs.Terms.{item}
 use Rattle.protocol.specs.Results.{fresh, inFront, distinctVotes, voteCounts}
 use Rattle.tally.specs.Ready.{Ready}
-use Rattle.tally.proofs.Votes.{times-most, counted, isFresh, one-fresh, none-fresh, new-counts, Again, again}
+use Rattle.tally.proofs.Votes.{times-most, counted, isFresh, one-fresh, none-fresh, new-counts, again}
 
 -- ---- stores to an output that is written from its start
 

@@ -1,0 +1,42 @@
+-- What the calls ensure, one in the other, is the digest of the three parts joined. Assumes nothing.
+use mathlib.Core.Path.{sym, ap, _∙_}
+use borrow.Author.Needs.{needs}
+use lib.ListN.{length}
+use Rattle.sha3.specs.Sha3.{absorbBytes, padded, squeeze}
+use Rattle.sha3.proofs.Taking.{start-fill}
+use Rattle.sha3.proofs.Digest.{digest-three}
+use Rattle.sha3.proofs.hash_parts.Statement.{statement}
+use Rattle.sha3.proofs.hash_parts.Tie as tie
+
+absorb-requires : tie.Need-absorb-requires
+absorb-requires c κs =
+    let s = c .before .before .before .before .before in
+    (s .pre .0, start-fill (s .args .rate) (c .start .ensures) (s .pre .0))
+
+returns : tie.Need-returns
+returns c =
+    let f = c .before .before in
+    let u = f .before .before in
+    let s = u .before .before .before in
+    let args = s .before .before .before .before .before .args in
+    let rate = args .rate in
+    let n = length (args .out .now) in
+    f .finish .ensures
+    ∙ ap (λ t. squeeze (padded rate t) n)
+    (u .absorb3 .ensures .0
+    ∙ ap (λ t. absorbBytes rate t (args .c .now))
+    (u .before .absorb2 .ensures .0
+    ∙ ap (λ t. absorbBytes rate t (args .b .now)) (u .before .before .absorb .ensures .0 ∙ ap (λ t. absorbBytes rate t (args .a .now)) (s .start .ensures))))
+    ∙ sym (digest-three rate n (args .a .now) (args .b .now) (args .c .now))
+
+pub hash-parts-spec : {M : Type 1} → statement M
+hash-parts-spec =
+    tie.close
+    (tie.spec
+    (λ c κs. search needs)
+    absorb-requires
+    (λ c κs. search needs)
+    (λ c κs. search needs)
+    (λ c κs. search needs)
+    (λ c. search needs)
+    returns)
