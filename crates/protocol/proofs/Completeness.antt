@@ -1,32 +1,30 @@
 -- Demand 3's second half over definitions: inputs that none of the three calls refuses give a record that plain judging accepts and
 -- that announces the votes cast, smallest first; where mask and sides are drawn, drawn judging accepts it too.
 use mathlib.Core.Path.{_≡_, refl, sym, ap, ap₂, _∙_}
-use mathlib.Core.Bool.{Bool, true, false}
-use mathlib.Core.List.{List, [], _∷_, _++_}
-use Prim.Native.Nat.{ℕ, _+_, _*_, _≤_, _<_}
-use native.Mathlib.Omega.{arith}
-use lib.ListN.{length, take}
+use mathlib.Core.Bool.{true, false}
+use mathlib.Core.List.{List, _++_}
+use Prim.Native.Nat.{ℕ, _+_}
+use lib.ListN.{length}
 use Rattle.laws.specs.Bytes.{Below}
 use Rattle.laws.specs.Faults.{rules}
 use Rattle.laws.specs.Sorting.{sort, length-sort}
 use Rattle.laws.specs.Tables.{tabulate, tabulate-of}
 use Rattle.protocol.specs.declared.Verdict.the-variants.{Accepted}
 use Rattle.protocol.specs.Terms.{item}
-use Rattle.protocol.specs.Layout.{partOneLength, partTwoLength, atFirstDice, atSecondDice}
-use Rattle.protocol.specs.Record.{Board, Comparison, Disclosure, parametersOf, partOne, partTwo, encoding}
+use Rattle.protocol.specs.Record.{Board, Comparison, Disclosure, encoding}
 use Rattle.protocol.specs.Drawing.{challenge, drawnMask, drawnSide}
 use Rattle.protocol.specs.Rules.{fairDice, rightShape}
 use Rattle.protocol.specs.Judging.{judged}
-use Rattle.protocol.specs.Inputs.{Slices, Inputs, inputsOf, parametersFor, refusal, binarySides, partOneRefusal, partTwoRefusal, partTwoDrawnRefusal, partThreeRefusal, partThreeDrawnRefusal}
+use Rattle.protocol.specs.Inputs.{Slices, inputsOf, binarySides, partOneRefusal, partTwoRefusal, partTwoDrawnRefusal, partThreeRefusal, partThreeDrawnRefusal}
 use Rattle.protocol.specs.Servers.{announced, postedBoard, postedComparison, postedDisclosure, firstPart, secondPart, maskFor, thirdPart, sidesFor}
 use Rattle.protocol.specs.Results.{announcedVotes}
-use Rattle.protocol.specs.Stands.{Stands, Valid, Drawn}
+use Rattle.protocol.specs.Stands.{Stands, Drawn}
 use Rattle.protocol.specs.Election.{Choice, chosen, drawn, maskBy, sidesBy, secondRefusal, thirdRefusal, electionMask, electionTwo, electionSides, electionThree, electionRecord}
 use Rattle.protocol.proofs.Fitting.{Fits}
 use Rattle.protocol.proofs.Goodness.{Good}
 use Rattle.protocol.proofs.Honesty.{Chosen, honest-fits, honest-valid}
 use Rattle.protocol.proofs.Unrefused as unrefusing
-use Rattle.protocol.proofs.Unrefused.{Unrefused, unrefused, good-inputs}
+use Rattle.protocol.proofs.Unrefused.{unrefused, good-inputs}
 use Rattle.protocol.proofs.Drawing.{drawn-mask, drawn-sides, item-drawn}
 use Rattle.protocol.proofs.Reading.{read-parameters, read-first-dice, read-mask, read-second-dice, read-side}
 use Rattle.protocol.proofs.Standing.{stands, before-first-dice, before-second-dice, announces}

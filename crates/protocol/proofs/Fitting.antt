@@ -1,6 +1,6 @@
 -- What fits the widths of the layout: what is said can be read again from the bytes that say it.
 use mathlib.Core.Path.{_≡_}
-use Prim.Native.Nat.{ℕ, _+_, _*_, _^_, _≤_, _<_}
+use Prim.Native.Nat.{ℕ, _^_, _<_}
 use lib.Count.{ones}
 use lib.ListN.{length}
 use Rattle.laws.specs.Masks.{bit}

@@ -1,6 +1,6 @@
 -- Inputs that no writer refuses, one by one.
 use mathlib.Core.Path.{_≡_}
-use Prim.Native.Nat.{ℕ, suc, _+_, _*_, _≤_, _<_}
+use Prim.Native.Nat.{ℕ, suc, _≤_, _<_}
 use lib.ListN.{length}
 use Rattle.laws.specs.Permutations.{Perm}
 use Rattle.protocol.specs.Terms.{mostBallots}

@@ -4,7 +4,7 @@ use Prim.Native.Nat.{ℕ, suc, _+_, _*_, _≤_, _<_}
 use native.Mathlib.Nat.{mul-le-mul-right}
 use native.Mathlib.Omega.{arith}
 use Rattle.protocol.specs.declared.Parameters.{Parameters}
-use Rattle.protocol.specs.Layout.{lists, firstWidth, atBallot, atEntry, atFirstDice, atLink, atSecondDice, atBallotHalf, atListHalf, atVote, atFullOpening, atEnd, recordLength, partOneLength, partTwoLength, partThreeLength}
+use Rattle.protocol.specs.Layout.{lists, firstWidth, atBallot, atEntry, atFirstDice, atLink, atSecondDice, atBallotHalf, atListHalf, atVote, atFullOpening, atEnd, recordLength, partThreeLength}
 
 -- ---- lengths
 
@@ -12,10 +12,6 @@ use Rattle.protocol.specs.Layout.{lists, firstWidth, atBallot, atEntry, 
 pub record-length : (p : Parameters) → recordLength p ≡ 75 + 316 * p .ballots + 734 * (p .compared * p .ballots)
 unfolding atEnd atVote atBallotHalf atSecondDice atFirstDice
 record-length p = omega arith
-
-pub part-two-end : (p : Parameters) → partOneLength p + partTwoLength p ≡ atSecondDice p
-unfolding atSecondDice
-part-two-end p = omega arith
 
 pub part-three-length : (p : Parameters) → atSecondDice p + partThreeLength p ≡ recordLength p
 unfolding partThreeLength atEnd atVote atBallotHalf

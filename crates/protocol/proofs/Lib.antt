@@ -27,3 +27,4 @@ pub mod Reencoding
 pub mod Completeness
 pub mod Demands
 pub mod Named
+pub mod Answered

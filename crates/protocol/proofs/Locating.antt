@@ -12,7 +12,7 @@ use Rattle.laws.specs.Chunks.{chunks, start, chunks-length, chunks-even, start-
 use Rattle.laws.specs.At.{At, at-self, at-move, at-same, at-left, at-right, at-chunk}
 use Rattle.protocol.specs.declared.Parameters.{Parameters}
 use Rattle.protocol.specs.Tablet.{ballotCommand}
-use Rattle.protocol.specs.Layout.{lists, atBallot, atEntry, atFirstDice, atLink, atSecondDice, atBallotHalf, atListHalf, atVote, atFullOpening, atEnd, recordLength, partOneLength, partTwoLength, partThreeLength}
+use Rattle.protocol.specs.Layout.{lists, atBallot, atEntry, atFirstDice, atLink, atSecondDice, atBallotHalf, atListHalf, atVote, atFullOpening, atEnd, partOneLength, partTwoLength, partThreeLength}
 use Rattle.protocol.specs.Record.{Board, Comparison, Disclosure, firstCommand, entryCommand, firstDiceCommand, linkCommand, secondDiceCommand, ballotHalfCommand, listHalfCommand, voteCommand, fullCommand, partOne, partTwo, halves, partThree, encoding}
 use Rattle.protocol.proofs.Fitting.{Fits}
 use Rattle.protocol.proofs.Widths.{length-first, length-ballot, length-entry, length-first-dice, length-link, length-second-dice, length-ballot-half, length-list-half, length-vote, length-full}
@@ -291,10 +291,6 @@ module _ (b : Board) (k : Comparison) (d : Disclosure) (f : Fits b k d) where
       let two : List ℕ = partTwo (b .parameters) k in
       let three : List ℕ = partThree (b .parameters) (k .mask) (k .position) d in
       omega (arith, length-append (partOne b) (two ++ three), length-append two three, one-long, two-long, three-long)
-
-  pub length-record : length (encoding b k d) ≡ recordLength (b .parameters)
-  unfolding atEnd atVote atBallotHalf atSecondDice atFirstDice
-  length-record = omega (arith, length-encoding)
 
   -- in each of the parts
   in-one : {c : List ℕ} {a : ℕ} → At (partOne b) a c → At (encoding b k d) a c

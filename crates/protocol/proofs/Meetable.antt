@@ -2,28 +2,26 @@
 -- as its first half wants them; and there are inputs that are not refused.
 use mathlib.Core.Path.{_≡_, refl, sym, ap, _∙_}
 use mathlib.Core.Logic.{_≢_}
-use mathlib.Core.Bool.{Bool, true, false}
+use mathlib.Core.Bool.{true, false}
 use mathlib.Core.List.{List, [], _∷_}
-use Prim.Native.Nat.{ℕ, zero, suc, _+_, _-_, _*_, _^_, _≤_, _<_}
+use Prim.Native.Nat.{ℕ, _+_, _-_, _*_, _^_, _≤_, _<_}
 use native.Mathlib.Nat.{mul-le-mul-left, add-zero}
 use native.Mathlib.Omega.{arith}
 use lib.Count.{ones, ones-cat, ones-ones}
-use lib.ListN.{length, take, replicate, length-replicate, getD-replicate}
+use lib.ListN.{replicate, getD-replicate}
 use lib.Pow.{pow-mono, shl-lt, pow-pos}
 use Rattle.laws.specs.Bytes.{Below}
 use Rattle.laws.specs.Tests.{equal, differ, below, atMost, _and_, _or_, every}
 use Rattle.laws.specs.Faults.{rule}
-use Rattle.protocol.specs.declared.Parameters.{Parameters}
 use Rattle.protocol.specs.declared.Verdict.the-variants.{Accepted}
-use Rattle.protocol.specs.Terms.{item, inLimits, modulusInLimits, ballotsInLimits, listsInLimits, allBelow}
+use Rattle.protocol.specs.Terms.{inLimits, modulusInLimits, ballotsInLimits, listsInLimits, allBelow}
 use Rattle.protocol.specs.Columns.{isPermutation}
-use Rattle.protocol.specs.Layout.{atFirstDice, atSecondDice}
-use Rattle.protocol.specs.Record.{Board, Comparison, Disclosure, parametersOf, maskOf, sideOf, encoding}
+use Rattle.protocol.specs.Record.{Board, Comparison, Disclosure, encoding}
 use Rattle.protocol.specs.Rules.{fairDie, fairDice}
 use Rattle.protocol.specs.Judging.{judged}
-use Rattle.protocol.specs.Inputs.{Slices, inputsOf, binarySides, listPermutations, dueLengths, idsRise, allPermutations, refusal, partOneRefusal}
+use Rattle.protocol.specs.Inputs.{Slices, inputsOf, listPermutations, dueLengths, idsRise, allPermutations, refusal, partOneRefusal}
 use Rattle.protocol.specs.Servers.{postedBoard, postedComparison, postedDisclosure}
-use Rattle.protocol.specs.Demand3.{beforeFirstDice, beforeSecondDice, Triple}
+use Rattle.protocol.specs.Demand3.{Triple}
 use Rattle.protocol.proofs.Fitting.{Fits}
 use Rattle.protocol.proofs.Goodness.{Good}
 use Rattle.protocol.proofs.Unrefused.{unrefused, good-inputs, shape-iff, binary-iff}

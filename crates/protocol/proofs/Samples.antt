@@ -12,7 +12,7 @@ use Rattle.laws.specs.Tables.{tabulate}
 use Rattle.laws.specs.Modular.{plus, minus}
 use Rattle.laws.specs.Permuting.{permutes}
 use Rattle.protocol.specs.declared.Parameters.{Parameters}
-use Rattle.protocol.specs.Terms.{item, inLimits, modulusInLimits, ballotsInLimits, listsInLimits, opening, opened, digits, decimal}
+use Rattle.protocol.specs.Terms.{item, inLimits, modulusInLimits, ballotsInLimits, listsInLimits, opening, digits, decimal}
 use Rattle.protocol.specs.Tablet.{oneOfThree, share, slot, ballotCommand}
 use Rattle.protocol.specs.Columns.{row, thirdOffset, source, rowServer, thirdOffsets, secondHalves}
 use Rattle.protocol.specs.Layout.{atFirstDice, atSecondDice, atBallotHalf, atVote, atEnd, recordLength}

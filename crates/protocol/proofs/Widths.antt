@@ -59,7 +59,7 @@ pub length-full : (l i : ℕ) (o : ℕ → List ℕ) → ((q : ℕ) → q < 6 �
 unfolding fullCommand
 length-full l i o wide = joined ((10 ∷ bytes 1 l) ++ bytes 2 i) o 4 36 6 (simp (length-append, length-bytes)) wide
 
--- ---- no gap: a command ends where the next one starts, in its row or in the row behind
+-- ---- no gap: a command ends where the next one starts, in its row or in the row behind. No proof needs it; it stands to refuse a wrong width.
 
 module _ (p : Parameters) (r : List ℕ) where
   unfoldable pub nextPlace : Due → ℕ

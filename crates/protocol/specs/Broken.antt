@@ -3,7 +3,7 @@ use mathlib.Core.Path.{_≡_}
 use mathlib.Core.Logic.{_≢_, _⊎_}
 use mathlib.Core.Bool.{Bool, true}
 use mathlib.Core.List.{List}
-use Prim.Native.Nat.{ℕ, suc, _+_, _*_, _%_, _^_, _≤_, _<_}
+use Prim.Native.Nat.{ℕ, suc, _+_, _*_, _^_, _≤_, _<_}
 use lib.Count.{ones}
 use lib.ListN.{length, take}
 use Rattle.laws.specs.Bytes.{number}
@@ -11,7 +11,7 @@ use Rattle.laws.specs.Modular.{plus, minus}
 use Rattle.laws.specs.Sums.{times}
 use Rattle.protocol.specs.declared.Parameters.{Parameters}
 use Rattle.protocol.specs.declared.Due.{Due}
-use Rattle.protocol.specs.declared.Due.the-variants.{First, Ballot, Entry, FirstDice, Link, SecondDice, BallotHalf, ListHalf, Vote, FullOpening, End}
+use Rattle.protocol.specs.declared.Due.the-variants.{First, Ballot, Entry, FirstDice, Link, SecondDice, BallotHalf, ListHalf, Vote, FullOpening}
 use Rattle.protocol.specs.Terms.{item, mostBallots, opened, inBallot, inEntry, commitment, sumOfThree, sumOfSix}
 use Rattle.protocol.specs.Layout.{code, width, atEntry, atFirstDice, atSecondDice, atBallotHalf, atVote}
 use Rattle.protocol.specs.Record.{idOf, ballotCommitmentOf, entryCommitmentOf, firstDiceOf, maskOf, linkPlace, positionOf, shiftOf, secondDiceOf, sideOf, ballotOpeningOf, listHalfPlace, listOpeningOf, voteOf, fullPlace, fullOpeningOf}

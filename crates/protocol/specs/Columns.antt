@@ -1,12 +1,11 @@
 -- Document 01, "Columns": what a row server does, row three's offsets, the split, and where a ballot goes.
 use mathlib.Core.Bool.{Bool}
 use mathlib.Core.List.{List}
-use Prim.Native.Nat.{ℕ, _+_, _*_}
+use Prim.Native.Nat.{ℕ}
 use lib.ListN.{length}
 use Rattle.laws.specs.Tests.{equal, differ, below, _and_, every}
 use Rattle.laws.specs.Faults.{rule, kept}
 use Rattle.laws.specs.Modular.{plus, minus}
-use Rattle.laws.specs.Permutations.{whence}
 use Rattle.laws.specs.Tables.{tabulate}
 use Rattle.protocol.specs.Terms.{item, allBelow, modulusInLimits, ballotsInLimits}
 

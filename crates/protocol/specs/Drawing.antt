@@ -1,5 +1,4 @@
 -- Document 01, "Drawing from dice".
-use mathlib.Core.Bool.{Bool}
 use mathlib.Core.List.{List, [], _∷_, _++_}
 use Prim.Native.Nat.{ℕ, zero, suc, _+_, _-_, _*_, _/_, _%_}
 use Rattle.laws.specs.Tests.{below, pick}

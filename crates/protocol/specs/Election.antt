@@ -2,8 +2,7 @@
 -- earlier parts as lent"; "Parts written from the same inputs and mask, any draw made on the parts written before, form one record".
 use mathlib.Core.List.{List, _++_}
 use Prim.Native.Nat.{ℕ}
-use lib.ListN.{length}
-use Rattle.protocol.specs.Inputs.{Slices, partOneRefusal, partTwoRefusal, partTwoDrawnRefusal, partThreeRefusal, partThreeDrawnRefusal}
+use Rattle.protocol.specs.Inputs.{Slices, partTwoRefusal, partTwoDrawnRefusal, partThreeRefusal, partThreeDrawnRefusal}
 use Rattle.protocol.specs.Servers.{firstPart, secondPart, maskFor, thirdPart, sidesFor}
 
 -- what is given, or drawn

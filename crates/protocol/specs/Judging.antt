@@ -1,10 +1,10 @@
 -- Document 01, "What is refused": "The judge goes command by command; the first faulty one decides."
-use mathlib.Core.Bool.{Bool, true, false}
+use mathlib.Core.Bool.{Bool}
 use mathlib.Core.List.{List}
-use Prim.Native.Nat.{ℕ, zero, suc, _+_, _*_}
+use Prim.Native.Nat.{ℕ, zero, suc}
 use lib.ListN.{length}
 use Rattle.laws.specs.declared.Found.{Found}
-use Rattle.laws.specs.declared.Found.the-variants.{Nothing, Fault}
+use Rattle.laws.specs.declared.Found.the-variants.{Nothing}
 use Rattle.laws.specs.Tests.{atMost, choose}
 use Rattle.laws.specs.Faults.{rule, kept, located, _then_, first, numberOf}
 use Rattle.laws.specs.Masks.{bit}
@@ -13,7 +13,7 @@ use Rattle.protocol.specs.declared.Due.{Due}
 use Rattle.protocol.specs.declared.Due.the-variants.{First, Ballot, Entry, FirstDice, Link, SecondDice, BallotHalf, ListHalf, Vote, FullOpening, End}
 use Rattle.protocol.specs.declared.Verdict.{Verdict}
 use Rattle.protocol.specs.declared.Verdict.the-variants.{Accepted, Refused}
-use Rattle.protocol.specs.Layout.{lists, atEnd, recordLength}
+use Rattle.protocol.specs.Layout.{lists, recordLength}
 use Rattle.protocol.specs.Record.{parametersOf, maskOf}
 use Rattle.protocol.specs.Rules.{placeOf, fault}
 

@@ -1,6 +1,6 @@
 -- Document 01, "The record": each command's byte, width and place. Places follow from the parameters and, for the lists that are
 -- compared or opened, from how many such lists come before.
-use Prim.Native.Nat.{ℕ, _+_, _*_, _-_}
+use Prim.Native.Nat.{ℕ, _+_, _*_}
 use Rattle.protocol.specs.declared.Parameters.{Parameters}
 use Rattle.protocol.specs.declared.Due.{Due}
 use Rattle.protocol.specs.declared.Due.the-variants.{First, Ballot, Entry, FirstDice, Link, SecondDice, BallotHalf, ListHalf, Vote, FullOpening, End}
@@ -50,6 +50,7 @@ module _ (p : Parameters) where
   unfoldable pub atEntry : ℕ → ℕ → ℕ
   atEntry l i = firstWidth + 197 * p .ballots + 196 * (l * p .ballots + i)
 
+  -- "04 first dice"
   unfoldable pub atFirstDice : ℕ
   atFirstDice = firstWidth + 197 * p .ballots + 196 * (lists * p .ballots)
 
@@ -57,6 +58,7 @@ module _ (p : Parameters) where
   unfoldable pub atLink : ℕ → ℕ → ℕ
   atLink c j = atFirstDice + 35 + 10 * (c * p .ballots + j)
 
+  -- "06 second dice"
   unfoldable pub atSecondDice : ℕ
   atSecondDice = atFirstDice + 35 + 10 * (p .compared * p .ballots)
 
@@ -76,6 +78,7 @@ module _ (p : Parameters) where
   unfoldable pub atFullOpening : ℕ → ℕ → ℕ
   atFullOpening c i = atVote (p .ballots) + 220 * (c * p .ballots + i)
 
+  -- "0B end"
   unfoldable pub atEnd : ℕ
   atEnd = atVote (p .ballots) + 220 * (p .compared * p .ballots)
 

@@ -9,6 +9,7 @@ pub mod Judging
 pub mod Inputs
 pub mod Servers
 pub mod Results
+pub mod Answers
 pub mod Stands
 pub mod Demand3
 pub mod Election

@@ -1,8 +1,8 @@
 -- Document 01, "Tablet" and "The program's page": the receipt check, the announced votes, the tally, the page; and the draw of a
 -- mask by itself.
-use mathlib.Core.Bool.{Bool, true, false}
+use mathlib.Core.Bool.{true, false}
 use mathlib.Core.List.{List, [], _∷_, _++_, map}
-use Prim.Native.Nat.{ℕ, zero, suc, _+_, _-_, _*_}
+use Prim.Native.Nat.{ℕ, zero, suc, _+_, _-_}
 use lib.ListN.{length, drop}
 use Rattle.laws.specs.Tests.{equal, differ, atMost, _and_, _or_, every, same, pick, choose}
 use Rattle.laws.specs.Faults.{rule, kept, _then_, numberOf}

@@ -1,5 +1,5 @@
 -- Document 01, "What is refused": the rules of each command, in rising order. A rule reads its operands, and those of earlier
--- commands, from the record.
+-- commands, from the record. `rule k test rest` is k where the test fails, else what the rest says; `kept` is no rule broken (`laws` `Faults`).
 use mathlib.Core.Bool.{Bool}
 use mathlib.Core.List.{List}
 use Prim.Native.Nat.{ℕ, zero, suc, _+_, _-_, _*_, _^_}
@@ -31,15 +31,15 @@ fairDice dice = every (λ i. fairDie (item dice i)) 30
 unfoldable pub rightShape : ℕ → ℕ → Bool
 rightShape m mask = equal (ones mask) m and below mask (2 ^ (2 * m))
 
--- rule 10: the numbers in k openings are below M
+-- rule 10, "an opened number .. not below M": the numbers in k openings
 unfoldable pub numbersBelow : ℕ → (ℕ → List ℕ) → ℕ → Bool
 numbersBelow M openings k = every (λ i. below (opened (openings i)) M) k
 
--- rule 13: an opening gives the commitment posted at a place
+-- rule 13, "opening does not give its commitment": that it does
 unfoldable pub gives : Place → List ℕ → List ℕ → Bool
 gives place o posted = same (commitment place o) posted
 
--- rule 14: "the ballot's three opened numbers must equal in sum: on side 0 the list's three plus t, on side 1 the list's three
+-- rule 14, "the two halves disagree": "the ballot's three opened numbers must equal in sum: on side 0 the list's three plus t, on side 1 the list's three
 -- minus t"
 unfoldable pub agrees : ℕ → ℕ → ℕ → ℕ → ℕ → Bool
 agrees M zero ballot list t = equal ballot (plus M list t)
@@ -112,7 +112,7 @@ module _ (p : Parameters) (r : List ℕ) where
       (rule 4 (equal (number r (fullPlace p r l i + 2) 2) i)
       (rule 10 (numbersBelow (p .modulus) (fullOpeningOf p r l i) 6)
       (rule 13 (every (λ q. gives (inEntry l i q) (fullOpeningOf p r l i q) (entryCommitmentOf p r l i q)) 6)
-      (rule 16 (equal (i + 1) (p .ballots) implies permutes (λ i. sumOfSix (p .modulus) (fullOpeningOf p r l i)) (voteOf p r) (p .ballots)) kept))))
+      (rule 16 (equal (i + 1) (p .ballots) implies permutes (λ k. sumOfSix (p .modulus) (fullOpeningOf p r l k)) (voteOf p r) (p .ballots)) kept))))
 
   abbrev pub rules : Bool → Due → ℕ
   rules drawn First = firstRules r

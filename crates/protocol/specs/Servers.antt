@@ -1,11 +1,11 @@
 -- Documents 01, "Columns" and "Servers' writing": the numbers that the servers work out, and the three parts that they write.
-use mathlib.Core.List.{List, [], _++_}
-use Prim.Native.Nat.{ℕ, _+_, _*_, _/_}
+use mathlib.Core.List.{List, _++_}
+use Prim.Native.Nat.{ℕ, _+_, _*_}
 use Rattle.laws.specs.Modular.{plus, minus}
 use Rattle.laws.specs.Permutations.{whence}
 use Rattle.laws.specs.Sorting.{sort}
 use Rattle.laws.specs.Tables.{tabulate}
-use Rattle.protocol.specs.Terms.{item, Place, inBallot, inEntry, commitment, opening}
+use Rattle.protocol.specs.Terms.{item, inBallot, inEntry, commitment, opening}
 use Rattle.protocol.specs.Tablet.{oneOfThree, share, slot}
 use Rattle.protocol.specs.Columns.{row, thirdOffset, source}
 use Rattle.protocol.specs.Record.{Board, Comparison, Disclosure, partOne, partTwo, partThree}

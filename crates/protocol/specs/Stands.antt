@@ -10,7 +10,7 @@ use Rattle.laws.specs.Masks.{bit}
 use Rattle.laws.specs.Permutations.{Perm}
 use Rattle.laws.specs.Sums.{times}
 use Rattle.protocol.specs.declared.Parameters.{Parameters}
-use Rattle.protocol.specs.Terms.{item, mostBallots, opened, Place, inBallot, inEntry, commitment}
+use Rattle.protocol.specs.Terms.{item, mostBallots, opened, inBallot, inEntry, commitment}
 use Rattle.protocol.specs.Layout.{lists, atBallot, atEntry, atFirstDice, atSecondDice, atBallotHalf, atVote, atEnd}
 use Rattle.protocol.specs.Record.{parametersOf, firstDiceOf, maskOf, linkPlace, positionOf, secondDiceOf, sideOf, listHalfPlace, fullPlace, Board, Comparison, Disclosure, boardOf, comparisonOf, disclosureOf}
 use Rattle.protocol.specs.Drawing.{challenge, drawnMask, drawnSide}
@@ -52,10 +52,13 @@ pub record Valid (b : Board) (k : Comparison) (d : Disclosure) : Type 0 where
   pub mask-bits : (i : ℕ) → lists (b .parameters) ≤ i → bit (k .mask) i ≡ 0
   -- "One list's positions all differ."
   pub positions : (l : ℕ) → l < lists (b .parameters) → bit (k .mask) l ≡ 1 → Perm (b .parameters .ballots) (k .position l)
+  -- t below M
   pub shifts : (l j : ℕ) → l < lists (b .parameters) → bit (k .mask) l ≡ 1 → j < b .parameters .ballots → k .shift l j < b .parameters .modulus
+  -- "30 characters", fair as the first
   pub second-fair : (i : ℕ) → i < 30 → (49 ≤ item (d .dice) i) × (item (d .dice) i ≤ 54)
   -- "Side 0 opens u1, u2, u3 and side 1 opens v1, v2, v3."
   pub sides : (j : ℕ) → j < b .parameters .ballots → d .side j ≤ 1
+  -- every opened number below M, every opening giving its commitment
   pub ballot-numbers : (j c : ℕ) → j < b .parameters .ballots → c < 3 → opened (d .ballotOpening j c) < b .parameters .modulus
   pub ballot-opens : (j c : ℕ) → j < b .parameters .ballots → c < 3
       → commitment (inBallot (b .id j) (2 * c + d .side j)) (d .ballotOpening j c) ≡ b .ballotCommitment j (2 * c + d .side j)
@@ -71,9 +74,11 @@ pub record Valid (b : Board) (k : Comparison) (d : Disclosure) : Type 0 where
   pub second-halves-agree : (l j : ℕ) → l < lists (b .parameters) → bit (k .mask) l ≡ 1 → j < b .parameters .ballots → d .side j ≡ 1
       → (opened (d .ballotOpening j 0) + opened (d .ballotOpening j 1) + opened (d .ballotOpening j 2) + k .shift l j) % b .parameters .modulus
       ≡ (opened (d .listOpening l j 0) + opened (d .listOpening l j 1) + opened (d .listOpening l j 2)) % b .parameters .modulus
-  -- "No vote is smaller than the one before."
+  -- votes below M
   pub votes-below : (i : ℕ) → i < b .parameters .ballots → d .vote i < b .parameters .modulus
+  -- "No vote is smaller than the one before."
   pub votes-rise : (i : ℕ) → suc i < b .parameters .ballots → d .vote i ≤ d .vote (suc i)
+  -- all six openings of every place of an opened list
   pub full-numbers : (l i q : ℕ) → l < lists (b .parameters) → bit (k .mask) l ≡ 0 → i < b .parameters .ballots → q < 6 → opened (d .fullOpening l i q) < b .parameters .modulus
   pub full-opens : (l i q : ℕ) → l < lists (b .parameters) → bit (k .mask) l ≡ 0 → i < b .parameters .ballots → q < 6
       → commitment (inEntry l i q) (d .fullOpening l i q) ≡ b .entryCommitment l i q

@@ -1,15 +1,13 @@
 -- Document 01, "Tablet": a vote in shares and halves, the ballot command, the receipt.
-use mathlib.Core.Bool.{Bool}
-use mathlib.Core.List.{List, [], _∷_, _++_}
+use mathlib.Core.List.{List, _∷_, _++_}
 use Prim.Native.Nat.{ℕ, zero, suc, _+_, _*_, _/_, _%_}
-use lib.ListN.{length}
 use Rattle.laws.specs.Tests.{equal, below, _and_, choose}
 use Rattle.laws.specs.Faults.{rule, kept}
 use Rattle.laws.specs.Bytes.{bytes}
 use Rattle.laws.specs.Chunks.{piece, chunks}
 use Rattle.laws.specs.Modular.{minus}
 use Rattle.sha3.specs.Sha3.{sha3-224}
-use Rattle.protocol.specs.Terms.{Place, inBallot, commitment, opening, modulusInLimits}
+use Rattle.protocol.specs.Terms.{inBallot, commitment, opening, modulusInLimits}
 
 -- one of three, by its number
 abbrev pub oneOfThree : ℕ → ℕ → ℕ → ℕ → ℕ

@@ -1,7 +1,7 @@
 -- Document 01, "Terms": limits, numbers, openings, commitments.
 use mathlib.Core.Bool.{Bool}
 use mathlib.Core.List.{List, [], _∷_, _++_}
-use Prim.Native.Nat.{ℕ, zero, suc, _+_, _*_, _/_, _%_}
+use Prim.Native.Nat.{ℕ, zero, suc, _+_, _/_, _%_}
 use lib.ListN.{length, getD}
 use Rattle.laws.specs.Tests.{below, atMost, _and_, every, pick}
 use Rattle.laws.specs.Bytes.{number, bytes}
