@@ -26,8 +26,9 @@ use Rattle.protocol.specs.Results.{receiptRefusal, receiptOf, receiptAmong, rec
 use Rattle.protocol.proofs.Faultless.{faultless-iff, accepted-nothing}
 use Rattle.layout.specs.Bounds.{Few}
 use Rattle.inputs.proofs.Endings.{refused, done}
-use Rattle.verifier.proofs.Known.{stands-whole, started}
-use Rattle.verifier.proofs.Stages.{found-nothing}
+use Rattle.stages.proofs.Known.{stands-whole}
+use Rattle.stages.proofs.Stages.{found-nothing}
+use Rattle.verifier.proofs.Known.{started}
 use Rattle.results.specs.Ready.{BallotsReady}
 
 -- ---- the receipt check

@@ -1,46 +1,32 @@
--- What a stage that has passed tells those behind it.
-use mathlib.Core.Path.{_≡_, refl, sym, ap, _∙_}
-use mathlib.Core.Logic.{_≢_}
-use mathlib.Core.Bool.{Bool, true}
+-- What a part that has passed tells those behind it.
+use mathlib.Core.Path.{_≡_, sym, ap, _∙_}
+use mathlib.Core.Bool.{Bool}
 use mathlib.Core.List.{List, _++_}
-use Prim.Native.Nat.{ℕ, zero, suc, _+_, _-_, _*_, _^_, _≤_, _<_}
+use Prim.Native.Nat.{ℕ, zero, suc, _+_, _-_, _≤_}
 use native.Mathlib.Nat.{le-trans, le-of-eq, zero-add}
-use native.Mathlib.Numerals.{add-one}
 use native.Mathlib.Decide.{ℕ-discrete}
 use native.Mathlib.Omega.{arith}
-use lib.Count.{ones}
 use lib.ListN.{length, take}
 use Rattle.laws.specs.declared.Found.the-variants.{Nothing}
-use Rattle.laws.specs.Bytes.{number}
 use Rattle.laws.specs.Faults.{first, rules, then-nothing}
-use Rattle.laws.specs.Masks.{bit, setBefore, clearBefore, bit-small, set-clear, set-ones, set-rank}
+use Rattle.laws.specs.Masks.{bit, setBefore, bit-small, set-ones}
 use Rattle.laws.specs.Chunks.{piece, piece-join}
 use Rattle.sha3.specs.declared.Sponge.{Sponge}
 use Rattle.sha3.specs.Sha3.{absorbBytes, empty}
 use Rattle.protocol.specs.declared.Parameters.{Parameters}
-use Rattle.protocol.specs.declared.Due.{Due}
-use Rattle.protocol.specs.declared.Due.the-variants.{First, Entry, FirstDice, Link, BallotHalf, Vote, FullOpening}
-use Rattle.protocol.specs.Terms.{opened}
-use Rattle.protocol.specs.Layout.{width, lists, atEntry, atFirstDice, atLink, atSecondDice}
-use Rattle.protocol.specs.Record.{parametersOf, maskOf, linkPlace, positionOf, shiftOf, sideOf, ballotOpeningOf, voteOf, fullOpeningOf}
-use Rattle.protocol.specs.Drawing.{challenge}
-use Rattle.protocol.specs.Rules.{numbersBelow, placeOf, rules as rulesOf, fault}
-use Rattle.protocol.specs.Judging.{found, ifCompared, entryFaults, linkFaults, voteFaults, partOneFaults, partTwoFaults}
+use Rattle.protocol.specs.declared.Due.the-variants.{First, Entry, FirstDice, Link}
+use Rattle.protocol.specs.Layout.{lists, atEntry, atFirstDice, atLink, atSecondDice}
+use Rattle.protocol.specs.Record.{parametersOf, maskOf, linkPlace}
+use Rattle.protocol.specs.Rules.{fault}
+use Rattle.protocol.specs.Judging.{found, ifCompared, entryFaults, linkFaults, partOneFaults, partTwoFaults}
 use Rattle.protocol.proofs.Lengths.{entry-next, entry-list-end, entries-end, first-dice-next, link-next, link-list-end, links-end}
-use Rattle.protocol.proofs.Tested.{fault-iff, first-tests, first-dice-tests, link-tests, ballot-half-tests, vote-tests, full-tests}
-use Rattle.reader.specs.Ready.{ListHalfKnown, FullKnown}
+use Rattle.protocol.proofs.Tested.{fault-iff, first-tests}
 use Rattle.challenge.specs.Text.{absorb-more}
-use Rattle.verifier.specs.Passed.{Started, HalfPassed, VotesPassed}
-use Rattle.verifier.proofs.Stages.{found-nothing}
+use Rattle.stages.proofs.Stages.{found-nothing}
+use Rattle.stages.proofs.Known.{stands-whole, mask-shape, links-stand}
+use Rattle.verifier.specs.Passed.{Started}
 
 module _ (drawn : Bool) (p : Parameters) (r : List ℕ) where
-  -- a command that stands keeps its rules and ends inside of the record
-  pub stands-rules : (d : Due) → fault p r drawn d ≡ 0 → rulesOf p r drawn d ≡ 0
-  stands-rules d e = fault-iff drawn p r d .0 e .1 .1
-
-  pub stands-whole : (d : Due) → fault p r drawn d ≡ 0 → placeOf p r d + width d ≤ length r
-  stands-whole d e = fault-iff drawn p r d .0 e .1 .0
-
   -- ---- the first command
 
   pub started : fault (parametersOf r) r drawn First ≡ 0 → p ≡ parametersOf r → Started p r
@@ -56,40 +42,20 @@ module _ (drawn : Bool) (p : Parameters) (r : List ℕ) where
       let l = lists p - 1 in
       let i = p .ballots - 1 in
       let t = simp rules at e in
-      let w : atEntry p l i + 196 ≤ length r = stands-whole (Entry l i) (t .1 l (omega arith) i (omega arith)) in
+      let w : atEntry p l i + 196 ≤ length r = stands-whole drawn p r (Entry l i) (t .1 l (omega arith) i (omega arith)) in
       let si : suc i ≡ p .ballots = omega arith in
       let sl : suc l ≡ lists p = omega arith in
       let end : atEntry p l i + 196 ≡ atFirstDice p =
       entry-next p l i ∙ ap (atEntry p l) si ∙ entry-list-end p l ∙ ap (λ (x : ℕ). atEntry p x 0) sl ∙ entries-end p in
       rw end at w
 
-  -- ---- the mask
-
-  module _ (k : fault p r drawn FirstDice ≡ 0) where
-    pub mask-shape : (ones (maskOf p r) ≡ p .compared) × (maskOf p r < 2 ^ (2 * p .compared))
-    mask-shape = first-dice-tests drawn p r .0 (stands-rules FirstDice k) .1 .0
-
-    pub compared-rank : (l : ℕ) → l < lists p → bit (maskOf p r) l ≡ 1 → setBefore (maskOf p r) l < p .compared
-    compared-rank l ll b = set-rank (p .compared) (maskOf p r) l (mask-shape .0) (mask-shape .1) ll b
-
-  -- ---- links
-
-  pub links-stand : first (λ l. ifCompared p r l (linkFaults drawn p r l)) (lists p) ≡ Nothing
-      → (l : ℕ) → l < lists p → bit (maskOf p r) l ≡ 1 → (j : ℕ) → j < p .ballots → fault p r drawn (Link l j) ≡ 0
-  unfolding ifCompared linkFaults found
-  links-stand e l ll b j lj = let t = simp rules at e in t l ll (λ z. omega arith) j lj
-
-  pub link-position : (l j : ℕ) → fault p r drawn (Link l j) ≡ 0 → positionOf p r l j < p .ballots
-  link-position l j e = link-tests drawn p r l j .0 (stands-rules (Link l j) e) .1 .1 .0
-
-  pub link-shift : (l j : ℕ) → fault p r drawn (Link l j) ≡ 0 → shiftOf p r l j < p .modulus
-  link-shift l j e = link-tests drawn p r l j .0 (stands-rules (Link l j) e) .1 .1 .1 .1
+  -- ---- part two
 
   module _ (k : fault p r drawn FirstDice ≡ 0) (s : first (λ l. ifCompared p r l (linkFaults drawn p r l)) (lists p) ≡ Nothing) (n : 1 ≤ p .ballots) where
     -- the links of the compared lists below l end inside of the record
     links-reach : (l : ℕ) → l ≤ lists p → atLink p (setBefore (maskOf p r) l) 0 ≤ length r
     unfolding linkPlace
-    links-reach zero h = le-trans (le-of-eq (sym (first-dice-next p))) (stands-whole FirstDice k)
+    links-reach zero h = le-trans (le-of-eq (sym (first-dice-next p))) (stands-whole drawn p r FirstDice k)
     links-reach (suc l) h = go (ℕ-discrete (bit (maskOf p r) l) 0) (links-reach l (omega arith))
       where
         go : Dec (bit (maskOf p r) l ≡ 0) → atLink p (setBefore (maskOf p r) l) 0 ≤ length r → atLink p (setBefore (maskOf p r) (suc l)) 0 ≤ length r
@@ -98,7 +64,7 @@ module _ (drawn : Bool) (p : Parameters) (r : List ℕ) where
             let b : bit (maskOf p r) l ≡ 1 = omega (arith, bit-small (maskOf p r) l) in
             let c = setBefore (maskOf p r) l in
             let i = p .ballots - 1 in
-            let w : atLink p c i + 10 ≤ length r = stands-whole (Link l i) (links-stand s l (omega arith) b i (omega arith)) in
+            let w : atLink p c i + 10 ≤ length r = stands-whole drawn p r (Link l i) (links-stand drawn p r s l (omega arith) b i (omega arith)) in
             let si : suc i ≡ p .ballots = omega arith in
             let sc : suc c ≡ setBefore (maskOf p r) (suc l) = omega arith in
             let end : atLink p c i + 10 ≡ atLink p (setBefore (maskOf p r) (suc l)) 0 =
@@ -107,7 +73,7 @@ module _ (drawn : Bool) (p : Parameters) (r : List ℕ) where
 
     pub part-two-reaches : atSecondDice p ≤ length r
     part-two-reaches =
-        let m = mask-shape k in
+        let m = mask-shape drawn p r k in
         let e : setBefore (maskOf p r) (lists p) ≡ p .compared = set-ones (lists p) (maskOf p r) (m .1) ∙ m .0 in
         le-trans (le-of-eq (sym (ap (λ (x : ℕ). atLink p x 0) e ∙ links-end p))) (links-reach (lists p) (omega arith))
 
@@ -115,103 +81,6 @@ module _ (drawn : Bool) (p : Parameters) (r : List ℕ) where
       → (fault p r drawn FirstDice ≡ 0) × (first (λ l. ifCompared p r l (linkFaults drawn p r l)) (lists p) ≡ Nothing)
   unfolding partTwoFaults
   part-two-stands e = let t = then-nothing _ _ .0 e in (found-nothing drawn p r FirstDice .0 (t .0), t .1)
-
-  -- the mask, read from the record at the first dice
-  pub mask-read : {at mask : ℕ} → at ≡ atFirstDice p → mask ≡ number r (at + 31) 4 → mask ≡ maskOf p r
-  unfolding maskOf
-  mask-read e h = rw e at h
-
-  -- ---- halves, votes and full openings
-
-  below-true : (openings : ℕ → List ℕ) (k : ℕ) → ((i : ℕ) → i < k → opened (openings i) < p .modulus) → numbersBelow (p .modulus) openings k ≡ true
-  unfolding numbersBelow
-  below-true openings k h = simp rules h
-
-  pub half-side : (j : ℕ) → fault p r drawn (BallotHalf j) ≡ 0 → sideOf p r j ≤ 1
-  half-side j e = ballot-half-tests drawn p r j .0 (stands-rules (BallotHalf j) e) .1 .1 .0
-
-  pub half-numbers : (j : ℕ) → fault p r drawn (BallotHalf j) ≡ 0 → numbersBelow (p .modulus) (ballotOpeningOf p r j) 3 ≡ true
-  half-numbers j e = below-true (ballotOpeningOf p r j) 3 (ballot-half-tests drawn p r j .0 (stands-rules (BallotHalf j) e) .1 .0)
-
-  pub votes-rise : voteFaults drawn p r (p .ballots) ≡ Nothing → (i : ℕ) → suc i < p .ballots → voteOf p r i ≤ voteOf p r (suc i)
-  unfolding voteFaults found
-  votes-rise e i h = let t = simp rules at e in vote-tests drawn p r (suc i) .0 (stands-rules (Vote (suc i)) (t (suc i) h)) .1 .1 i refl
-
-  pub full-numbers : (l i : ℕ) → first (λ i. found drawn p r (FullOpening l i)) i ≡ Nothing
-      → (k : ℕ) → k < i → numbersBelow (p .modulus) (fullOpeningOf p r l k) 6 ≡ true
-  unfolding found
-  full-numbers l i e k h =
-      let t = simp rules at e in
-      below-true (fullOpeningOf p r l k) 6 (full-tests drawn p r l k .0 (stands-rules (FullOpening l k) (t k h)) .1 .1 .0)
-
--- ---- what the command reader is told
-
-pub half-known : {drawn : Bool} {p : Parameters} {r : List ℕ} {mask j l rank : ℕ} → HalfPassed drawn p r mask j → l < lists p
-    → rank ≡ setBefore (maskOf p r) l → bit (maskOf p r) l ≡ 1 → ListHalfKnown p r l j rank
-half-known {drawn} {p} {r} {mask} {j} {l} {rank} h ll e b =
-    let link : fault p r drawn (Link l j) ≡ 0 = links-stand drawn p r (h .links) l ll b j (h .ballot) in
-    record {
-      few = h .dice .few;
-      list = ll;
-      ballot = h .ballot;
-      ranked = e;
-      compared = rw e (compared-rank drawn p r (h .dice .first-dice) l ll b);
-      position = link-position drawn p r l j link;
-      shift = link-shift drawn p r l j link;
-      side = half-side drawn p r j (h .half);
-      numbers = half-numbers drawn p r j (h .half);
-    }
-
-pub full-known : {drawn : Bool} {p : Parameters} {r : List ℕ} {l i : ℕ} → VotesPassed drawn p r → l < lists p → i < p .ballots
-    → first (λ i. found drawn p r (FullOpening l i)) i ≡ Nothing → FullKnown p r l i
-full-known {drawn} {p} {r} {l} {i} h ll li z = record {
-  few = h .dice .few;
-  list = ll;
-  position = li;
-  earlier = full-numbers drawn p r l i z;
-  votes = votes-rise drawn p r (h .votes);
-}
-
--- what a dice command's text is, by its place
-pub text-at : (r : List ℕ) {drawn : Bool} {prefix : Sponge} {text : List ℕ} {at a : ℕ} → at ≡ a
-    → (drawn ≡ true → at + 31 ≤ length r → prefix ≡ absorbBytes 144 empty (take at r) → text ≡ challenge (piece r (at + 1) 30) (take at r))
-    → drawn ≡ true → a + 31 ≤ length r → prefix ≡ absorbBytes 144 empty (take a r) → text ≡ challenge (piece r (a + 1) 30) (take a r)
-text-at r e h = rw e at h
-
--- ---- ranks, list by list
-
-pub set-next : (mask l : ℕ) → setBefore mask (l + 1) ≡ setBefore mask l + bit mask l
-set-next mask l = rw add-one
-
-pub clear-next : (mask l : ℕ) → clearBefore mask (l + 1) ≡ clearBefore mask l + 1 - bit mask l
-clear-next mask l = rw add-one (omega (arith, bit-small mask l))
-
--- the rank of the next list, worked out from a mask that is the record's
-pub set-turn : {mask m rank : ℕ} (l : ℕ) → mask ≡ m → rank ≡ setBefore m l → rank + bit mask l ≡ setBefore m (l + 1)
-set-turn {mask} {m} {rank} l e h = rw (e, h) (sym (set-next m l))
-
-pub clear-turn : {mask m rank : ℕ} (l : ℕ) → mask ≡ m → rank ≡ clearBefore m l → rank + 1 - bit mask l ≡ clearBefore m (l + 1)
-clear-turn {mask} {m} {rank} l e h = rw (e, h) (sym (clear-next m l))
-
--- a bit of a mask that is the record's
-pub bit-is : {mask m b : ℕ} (l : ℕ) → mask ≡ m → bit mask l ≡ b → bit m l ≡ b
-bit-is l e h = rw (← e) h
-
-pub bit-not : {mask m b : ℕ} (l : ℕ) → mask ≡ m → bit mask l ≢ b → bit m l ≢ b
-bit-not l e h q = h (rw e q)
-
-pub bit-one : (mask l : ℕ) → bit mask l ≢ 0 → bit mask l ≡ 1
-bit-one mask l h = omega (arith, bit-small mask l)
-
-pub bit-zero : (mask l : ℕ) → bit mask l ≢ 1 → bit mask l ≡ 0
-bit-zero mask l h = omega (arith, bit-small mask l)
-
--- no more lists of either kind than lists come before a list
-pub set-few : (mask l : ℕ) → setBefore mask l ≤ l
-set-few mask l = omega (arith, set-clear mask l)
-
-pub clear-few : (mask l : ℕ) → clearBefore mask l ≤ l
-clear-few mask l = omega (arith, set-clear mask l)
 
 -- ---- the sponge goes on from one place to another
 

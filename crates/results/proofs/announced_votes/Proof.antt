@@ -1,5 +1,5 @@
 -- `results::announced_votes` meets its contract: the plain judge's number comes first.
-use Rattle.verifier.proofs.Stages.{passed-as}
+use Rattle.stages.proofs.Stages.{passed-as}
 use Rattle.results.proofs.Answers.{votes-refused}
 use borrow.Author.Needs.{needs}
 use Rattle.results.proofs.announced_votes.Statement.{statement}

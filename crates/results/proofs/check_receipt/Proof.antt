@@ -1,5 +1,5 @@
 -- `results::check_receipt` meets its contract: the receipt's length, then the judge's number, then the answer among all ballots.
-use Rattle.verifier.proofs.Stages.{passed-as}
+use Rattle.stages.proofs.Stages.{passed-as}
 use Rattle.results.proofs.Answers.{head-whole, ballots-ready, receipt-short, receipt-refused, receipt-answered}
 use borrow.Author.Needs.{needs}
 use Rattle.results.proofs.check_receipt.Statement.{statement}

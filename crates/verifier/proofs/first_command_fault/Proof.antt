@@ -1,7 +1,8 @@
 -- `verifier::first_command_fault` meets its contract: its rule needs no parameters.
 use mathlib.Core.Path.{refl, sym, _∙_}
 use borrow.Author.Needs.{needs}
-use Rattle.verifier.proofs.Stages.{found-fault, found-none, first-alike}
+use Rattle.stages.proofs.Stages.{found-fault, found-none}
+use Rattle.verifier.proofs.Verdicts.{first-alike}
 use Rattle.verifier.proofs.first_command_fault.Statement.{statement}
 use Rattle.verifier.proofs.first_command_fault.Tie as tie
 

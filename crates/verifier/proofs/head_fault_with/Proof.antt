@@ -5,8 +5,10 @@ use native.Mathlib.Omega.{arith}
 use borrow.Author.Needs.{needs}
 use Rattle.protocol.specs.declared.Due.the-variants.{First}
 use Rattle.protocol.specs.Record.{parametersOf}
-use Rattle.verifier.proofs.Stages.{passed-as, found-nothing, then-fault, then-rest, ballots-alike}
-use Rattle.verifier.proofs.Known.{stands-whole, started}
+use Rattle.stages.proofs.Stages.{passed-as, found-nothing, then-fault, then-rest}
+use Rattle.stages.proofs.Known.{stands-whole}
+use Rattle.verifier.proofs.Verdicts.{ballots-alike}
+use Rattle.verifier.proofs.Known.{started}
 use Rattle.protocol.specs.Rules.{fault}
 use Rattle.verifier.proofs.head_fault_with.Statement.{statement}
 use Rattle.verifier.proofs.head_fault_with.Tie as tie

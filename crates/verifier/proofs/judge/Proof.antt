@@ -1,6 +1,7 @@
 -- `verifier::judge` meets its contract: the verdict is the number of the first fault.
 use borrow.Author.Needs.{needs}
-use Rattle.verifier.proofs.Stages.{passed-as, accepted-is, refused-is}
+use Rattle.stages.proofs.Stages.{passed-as}
+use Rattle.verifier.proofs.Verdicts.{accepted-is, refused-is}
 use Rattle.verifier.proofs.judge.Statement.{statement}
 use Rattle.verifier.proofs.judge.Tie as tie
 

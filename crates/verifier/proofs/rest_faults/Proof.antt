@@ -8,7 +8,7 @@ use Rattle.laws.specs.declared.Found.the-variants.{Nothing}
 use Rattle.laws.specs.Faults.{first}
 use Rattle.protocol.specs.Layout.{atFirstDice}
 use Rattle.protocol.specs.Judging.{partOneFaults, partTwoFaults}
-use Rattle.verifier.proofs.Stages.{passed-as, then-fault, then-rest}
+use Rattle.stages.proofs.Stages.{passed-as, then-fault, then-rest}
 use Rattle.verifier.proofs.Known.{part-one-reaches, part-two-reaches, part-two-stands, prefix-start, prefix-on}
 use Rattle.sha3.proofs.Taking.{start-fill}
 use Rattle.protocol.proofs.Lengths.{first-dice-inside}

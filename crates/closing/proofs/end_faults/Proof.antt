@@ -1,0 +1,41 @@
+-- `closing::end_faults` meets its contract: the end, and then the record's length.
+use mathlib.Core.Path.{refl}
+use native.Mathlib.Omega.{arith}
+use borrow.Author.Needs.{needs}
+use Rattle.stages.proofs.Stages.{found-fault, found-none, then-fault, then-rest}
+use Rattle.closing.proofs.Ending.{trailing-stop, trailing-pass}
+use Rattle.closing.proofs.end_faults.Statement.{statement}
+use Rattle.closing.proofs.end_faults.Tie as tie
+
+at-end-requires : tie.Need-at-end-requires
+at-end-requires c κs = search needs
+
+step-requires : tie.Need-step-requires
+step-requires c κs = search needs
+
+returns : tie.Need-returns
+returns c = then-fault _ _ (found-fault _ _ _ _ (c .before .before .at-end .ensures .0) (c .before .step .ensures) (c .if1 .taken)) refl
+
+add-if2 : tie.Need-add-if2
+add-if2 c = search needs
+
+add-t13 : tie.Need-add-t13
+add-t13 c = search needs
+
+returns-2 : tie.Need-returns-2
+returns-2 c = then-rest _ _ (found-none _ _ _ _ (c .before .before .step .ensures) (c .before .if1 .left)) (trailing-stop _ _ (c .before .before .before .at-end .ensures .0) (c .if2 .taken))
+
+returns-3 : tie.Need-returns-3
+returns-3 c = then-rest _ _ (found-none _ _ _ _ (c .before .before .step .ensures) (c .before .if1 .left)) (trailing-pass _ _ (c .before .before .before .at-end .ensures .0) (omega arith))
+
+pub end-faults-spec : {M : Type 1} → statement M
+end-faults-spec =
+    tie.close
+    (tie.spec
+    at-end-requires
+    step-requires
+    returns
+    add-if2
+    add-t13
+    returns-2
+    returns-3)

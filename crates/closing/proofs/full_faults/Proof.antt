@@ -1,0 +1,79 @@
+-- `closing::full_faults` meets its contract: no full opening passed has a fault.
+use mathlib.Core.Path.{_≡_, refl, ap, _∙_}
+use mathlib.Core.Bool.{Bool}
+use mathlib.Core.List.{List}
+use Prim.Native.Nat.{ℕ, _-_, _≤_}
+use native.Mathlib.Omega.{arith}
+use Rattle.laws.specs.declared.Found.{Found}
+use Rattle.laws.specs.declared.Found.the-variants.{Nothing}
+use Rattle.laws.specs.Faults.{first, first-more}
+use Rattle.protocol.specs.declared.Parameters.{Parameters}
+use Rattle.protocol.specs.declared.Due.the-variants.{FullOpening}
+use Rattle.protocol.specs.Layout.{atFullOpening}
+use Rattle.protocol.specs.Record.{fullPlace}
+use Rattle.protocol.specs.Judging.{found, fullFaults}
+use Rattle.stages.proofs.Stages.{found-fault, found-none, row-start, row-stop, row-end}
+use Rattle.closing.proofs.Known.{full-known}
+use Rattle.closing.proofs.full_faults.Statement.{statement}
+use Rattle.closing.proofs.full_faults.Tie as tie
+
+-- what is found of one command
+abbrev row : Bool → Parameters → List ℕ → ℕ → ℕ → Found
+row drawn p r l i = found drawn p r (FullOpening l i)
+
+abbrev Inv-loop : tie.InvT-loop
+Inv-loop bytes p drawn l rank text marks n i₀ i = (i ≤ p .ballots) × (first (row drawn p bytes l) i ≡ Nothing)
+
+abbrev μ-loop : tie.MeasureT-loop
+μ-loop bytes p drawn l rank text marks n i₀ i = p .ballots - i
+
+loop-holds : tie.Need-loop-holds Inv-loop μ-loop
+loop-holds c = (omega arith, row-start _)
+
+at-full-opening-requires : tie.Need-at-full-opening-requires Inv-loop μ-loop
+at-full-opening-requires c κs = (c .before .before .before .pre .0 .dice .few, (c .before .before .before .pre .3, omega arith))
+
+-- an opened list's place is by its rank
+place : (c : tie.After-at-full-opening Inv-loop μ-loop) →
+    (let s = c .before .before .before .before .args in c .at-full-opening .result ≡ fullPlace (s .p) (s .bytes .now) (s .l) (c .before .before .loop .i))
+unfolding fullPlace
+place c = let s = c .before .before .before .before in c .at-full-opening .ensures .0 ∙ ap (λ (k : ℕ). atFullOpening (s .args .p) k (c .before .before .loop .i)) (s .pre .2)
+
+step-requires : tie.Need-step-requires Inv-loop μ-loop
+step-requires c κs = let s = c .before .before .before .before in (place c, full-known (s .pre .0) (s .pre .1) (c .before .loop-test .taken) (c .before .before .loop .inv .1))
+
+returns : tie.Need-returns Inv-loop μ-loop
+unfolding fullFaults
+returns c =
+    let g = c .before .before .before .before in
+    row-stop _ _ (g .loop .i) (omega arith) (g .loop .inv .1) (found-fault _ _ _ _ (place (c .before .before)) (c .before .step .ensures) (c .if1 .taken)) refl
+
+add-i : tie.Need-add-i Inv-loop μ-loop
+add-i c = omega arith
+
+loop-less : tie.Need-loop-less Inv-loop μ-loop
+loop-less c = omega arith
+
+loop-again : tie.Need-loop-again Inv-loop μ-loop
+loop-again c =
+    let g = c .before .before .before .before in
+    (omega arith, first-more _ _ (g .loop .inv .1) (found-none _ _ _ _ (c .before .step .ensures) (c .if1 .left)))
+
+returns-2 : tie.Need-returns-2 Inv-loop μ-loop
+unfolding fullFaults
+returns-2 c = row-end _ _ (c .before .loop .i) (omega arith) (omega arith) (c .before .loop .inv .1)
+
+pub full-faults-spec : {M : Type 1} → statement M
+full-faults-spec =
+    tie.close
+    (tie.spec
+    Inv-loop
+    μ-loop
+    loop-holds
+    at-full-opening-requires
+    step-requires
+    returns
+    add-i
+    loop-less
+    loop-again
+    returns-2)

@@ -1,0 +1,92 @@
+-- `closing::list_half_faults` meets its contract: no list passed has a fault; the rank counts the compared ones.
+use mathlib.Core.Path.{_≡_, refl}
+use Prim.Native.Nat.{_-_, _≤_}
+use native.Mathlib.Omega.{arith}
+use borrow.Author.Needs.{needs}
+use Rattle.laws.specs.declared.Found.the-variants.{Nothing}
+use Rattle.laws.specs.Faults.{first, first-more}
+use Rattle.laws.specs.Masks.{setBefore, bit-small}
+use Rattle.protocol.specs.declared.Due.the-variants.{ListHalf}
+use Rattle.protocol.specs.Record.{maskOf}
+use Rattle.protocol.specs.Judging.{found, ifCompared, listHalfFaults}
+use Rattle.stages.proofs.Stages.{passed-as, row-start, row-stop, row-end}
+use Rattle.stages.proofs.Known.{set-turn, set-few}
+use Rattle.closing.proofs.list_half_faults.Statement.{statement}
+use Rattle.closing.proofs.list_half_faults.Tie as tie
+
+abbrev Inv-loop : tie.InvT-loop
+Inv-loop bytes p drawn mask j text marks all rank₀ l₀ rank l = (l ≤ all) × (first (λ l. ifCompared p bytes l (found drawn p bytes (ListHalf l j))) l ≡ Nothing) × (rank ≡ setBefore (maskOf p bytes) l)
+
+abbrev μ-loop : tie.MeasureT-loop
+μ-loop bytes p drawn mask j text marks all rank₀ l₀ rank l = all - l
+
+lists-requires : tie.Need-lists-requires Inv-loop μ-loop
+lists-requires c κs = c .before .pre .dice .few
+
+loop-holds : tie.Need-loop-holds Inv-loop μ-loop
+loop-holds c = (omega arith, row-start _, refl)
+
+half-if-compared-requires : tie.Need-half-if-compared-requires Inv-loop μ-loop
+half-if-compared-requires c κs = (c .before .before .before .before .pre, omega arith, c .before .loop .inv .2, omega (arith, set-few (maskOf (c .before .before .before .before .args .p) (c .before .before .before .before .args .bytes .now)) (c .before .loop .l)))
+
+enum-told : tie.Need-enum-told Inv-loop μ-loop
+enum-told c = search needs
+
+enum-told-2 : tie.Need-enum-told-2 Inv-loop μ-loop
+enum-told-2 c = search needs
+
+returns : tie.Need-returns Inv-loop μ-loop
+unfolding listHalfFaults
+returns c =
+    let g = c .before .before .before .before in
+    row-stop _ _ (g .loop .l) (omega arith) (g .loop .inv .1) (c .before .before .half-if-compared .ensures) (c .enum-told2 .given .1)
+
+cast-rank : tie.Need-cast-rank Inv-loop μ-loop
+cast-rank c = omega arith
+
+shr-rank : tie.Need-shr-rank Inv-loop μ-loop
+shr-rank c = omega arith
+
+cast-rank-2 : tie.Need-cast-rank-2 Inv-loop μ-loop
+cast-rank-2 c = omega (arith, bit-small (c .before .before .before .before .before .before .before .args .mask) (c .before .before .before .before .loop .l))
+
+add-rank : tie.Need-add-rank Inv-loop μ-loop
+add-rank c =
+    let g = c .before .before .before .before in
+    omega (arith, bit-small (c .before .before .before .before .before .before .before .args .mask) (g .loop .l), set-few (maskOf (c .before .before .before .before .before .before .before .args .p) (c .before .before .before .before .before .before .before .args .bytes .now)) (g .loop .l))
+
+add-l : tie.Need-add-l Inv-loop μ-loop
+add-l c = omega arith
+
+loop-less : tie.Need-loop-less Inv-loop μ-loop
+loop-less c = omega arith
+
+loop-again : tie.Need-loop-again Inv-loop μ-loop
+loop-again c =
+    let g = c .before .before .before .before in
+    (omega arith, first-more _ _ (g .loop .inv .1) (passed-as (c .before .before .half-if-compared .ensures) (c .enum-told .given .1)), set-turn (g .loop .l) (c .before .before .before .before .before .before .before .pre .mask-is) (g .loop .inv .2))
+
+returns-2 : tie.Need-returns-2 Inv-loop μ-loop
+unfolding listHalfFaults
+returns-2 c = row-end _ _ (c .before .loop .l) (omega arith) (omega arith) (c .before .loop .inv .1)
+
+pub list-half-faults-spec : {M : Type 1} → statement M
+list-half-faults-spec =
+    tie.close
+    (tie.spec
+    Inv-loop
+    μ-loop
+    lists-requires
+    loop-holds
+    half-if-compared-requires
+    enum-told
+    enum-told-2
+    returns
+    cast-rank
+    shr-rank
+    cast-rank-2
+    add-rank
+    add-l
+    loop-less
+    loop-again
+    returns-2)

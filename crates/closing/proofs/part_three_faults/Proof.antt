@@ -1,0 +1,91 @@
+-- `closing::part_three_faults` meets its contract: the second dice, halves, and then votes and openings.
+use mathlib.Core.Path.{_≡_, refl, sym, _∙_}
+use native.Mathlib.Omega.{arith}
+use borrow.Author.Needs.{needs}
+use Rattle.protocol.specs.declared.Due.the-variants.{FirstDice, SecondDice}
+use Rattle.protocol.specs.Record.{maskOf, secondDiceOf}
+use Rattle.protocol.specs.Judging.{partThreeFaults}
+use Rattle.stages.proofs.Stages.{passed-as, found-fault, found-none, then-fault, then-rest}
+use Rattle.stages.proofs.Known.{stands-whole, text-at, mask-read}
+use Rattle.closing.proofs.part_three_faults.Statement.{statement}
+use Rattle.closing.proofs.part_three_faults.Tie as tie
+
+at-second-dice-requires : tie.Need-at-second-dice-requires
+at-second-dice-requires c κs = search needs
+
+step-requires : tie.Need-step-requires
+step-requires c κs = search needs
+
+returns : tie.Need-returns
+unfolding partThreeFaults
+returns c = then-fault _ _ (found-fault _ _ _ _ (c .before .before .at-second-dice .ensures .0) (c .before .step .ensures) (c .if1 .taken)) refl
+
+at-first-dice-requires : tie.Need-at-first-dice-requires
+at-first-dice-requires c κs = search needs
+
+add-read4 : tie.Need-add-read4
+add-read4 c = search needs
+
+read4-requires : tie.Need-read4-requires
+read4-requires c κs =
+    let s = c .before .before .before .before .before in
+    omega (arith, stands-whole (s .args .drawn) (s .args .p) (s .args .bytes .now) FirstDice (s .pre .dice .first-dice), c .at-first-dice .ensures .0)
+
+dice-text-requires : tie.Need-dice-text-requires
+dice-text-requires c κs = search needs
+
+-- the mask that is read is the record's
+mask : (c : tie.After-read4) → (let s = c .before .before .before .before .before .before .args in c .read4 .result ≡ maskOf (s .p) (s .bytes .now))
+mask c = let s = c .before .before .before .before .before .before .args in mask-read (s .drawn) (s .p) (s .bytes .now) (c .before .at-first-dice .ensures .0) (c .read4 .ensures .0)
+
+all-half-faults-requires : tie.Need-all-half-faults-requires
+unfolding secondDiceOf
+all-half-faults-requires c κs =
+    let s = c .before .before .before .before .before .before .before .before in
+    let r = s .args .bytes .now in
+    let whole = stands-whole (s .args .drawn) (s .args .p) r SecondDice (sym (c .before .before .before .before .before .step .ensures) ∙ c .before .before .before .before .if1 .left) in
+    record {
+      dice = s .pre .dice;
+      mask-is = mask (c .before .before);
+      links = s .pre .links;
+      text-is = λ d. text-at r (c .before .before .before .before .before .before .at-second-dice .ensures .0) (c .before .dice-text .ensures) d whole (s .pre .prefix-is d);
+    }
+
+enum-told : tie.Need-enum-told
+enum-told c = search needs
+
+enum-told-2 : tie.Need-enum-told-2
+enum-told-2 c = search needs
+
+returns-2 : tie.Need-returns-2
+unfolding partThreeFaults
+returns-2 c =
+    then-rest _ _ (found-none _ _ _ _ (c .before .before .before .before .before .before .before .before .step .ensures) (c .before .before .before .before .before .before .before .if1 .left))
+    (then-fault _ _ (c .before .before .all-half-faults .ensures) (c .enum-told2 .given .1))
+
+closing-faults-requires : tie.Need-closing-faults-requires
+closing-faults-requires c κs = (c .before .before .before .before .before .before .before .before .before .before .before .pre .dice, mask (c .before .before .before .before .before))
+
+returns-3 : tie.Need-returns-3
+unfolding partThreeFaults
+returns-3 c =
+    then-rest _ _ (found-none _ _ _ _ (c .before .before .before .before .before .before .before .before .before .step .ensures) (c .before .before .before .before .before .before .before .before .if1 .left))
+    (then-rest _ _ (passed-as (c .before .before .before .all-half-faults .ensures) (c .before .enum-told .given .1)) (c .closing-faults .ensures))
+
+pub part-three-faults-spec : {M : Type 1} → statement M
+part-three-faults-spec =
+    tie.close
+    (tie.spec
+    at-second-dice-requires
+    step-requires
+    returns
+    at-first-dice-requires
+    add-read4
+    read4-requires
+    dice-text-requires
+    all-half-faults-requires
+    enum-told
+    enum-told-2
+    returns-2
+    closing-faults-requires
+    returns-3)

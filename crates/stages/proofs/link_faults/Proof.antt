@@ -1,0 +1,125 @@
+-- `stages::link_faults` meets its contract: no link passed has a fault, and the marks are those of their positions.
+use mathlib.Core.Path.{_≡_, refl, sym, ap, _∙_}
+use mathlib.Core.Bool.{Bool, true}
+use mathlib.Core.List.{List}
+use Prim.Native.Nat.{ℕ, _-_, _≤_, _<_}
+use native.Mathlib.Omega.{arith}
+use lib.ListN.{length}
+use Rattle.laws.specs.declared.Found.{Found}
+use Rattle.laws.specs.declared.Found.the-variants.{Nothing}
+use Rattle.laws.specs.Faults.{first, first-more}
+use Rattle.protocol.specs.declared.Parameters.{Parameters}
+use Rattle.protocol.specs.declared.Due.the-variants.{Link}
+use Rattle.protocol.specs.Layout.{atLink}
+use Rattle.protocol.specs.Record.{linkPlace, positionOf}
+use Rattle.protocol.specs.Judging.{found, linkFaults}
+use Rattle.stages.proofs.Stages.{found-fault, found-none, row-start, row-stop, row-end}
+use Rattle.stages.proofs.Known.{stands-whole, link-position}
+use lib.ListN.{length-set}
+use Rattle.protocol.specs.Terms.{mostBallots}
+use Rattle.protocol.specs.Rules.{fault}
+use Rattle.rules.specs.Marks.{Marked}
+use Rattle.rules.proofs.Marking.{none-marked, one-marked}
+use Rattle.stages.proofs.link_faults.Statement.{statement}
+use Rattle.stages.proofs.link_faults.Tie as tie
+
+-- what is found of one link
+abbrev row : Bool → Parameters → List ℕ → ℕ → ℕ → Found
+row drawn p r l j = found drawn p r (Link l j)
+
+abbrev Inv-loop : tie.InvT-loop
+Inv-loop bytes p drawn l rank text marks₀ n j₀ marks j =
+    (j ≤ p .ballots) × (first (row drawn p bytes l) j ≡ Nothing) × (length marks ≡ mostBallots) × Marked p bytes l j marks
+
+abbrev μ-loop : tie.MeasureT-loop
+μ-loop bytes p drawn l rank text marks₀ n j₀ marks j = p .ballots - j
+
+loop-holds : tie.Need-loop-holds Inv-loop μ-loop
+loop-holds c = let s = c .before .args in (omega arith, row-start _, refl, none-marked (s .p) (s .bytes .now) (s .l))
+
+at-link-requires : tie.Need-at-link-requires Inv-loop μ-loop
+at-link-requires c κs = let s = c .before .before .before in (s .pre .0 .few, (s .pre .2, omega arith))
+
+-- a link's place is by its list's rank
+place : (c : tie.After-at-link Inv-loop μ-loop) →
+    (let s = c .before .before .before .before .args in c .at-link .result ≡ linkPlace (s .p) (s .bytes .now) (s .l) (c .before .before .loop .j))
+unfolding linkPlace
+place c = let s = c .before .before .before .before in c .at-link .ensures .0 ∙ ap (λ (k : ℕ). atLink (s .args .p) k (c .before .before .loop .j)) (s .pre .1)
+
+step-requires : tie.Need-step-requires Inv-loop μ-loop
+step-requires c κs = (place (c .before), record { few = c .before .before .before .before .before .pre .0 .few .ballots; marked = c .before .before .before .loop .inv .3 })
+
+returns : tie.Need-returns Inv-loop μ-loop
+unfolding linkFaults
+returns c =
+    let g = c .before .before .before .before .before in
+    row-stop _ _ (g .loop .j) (omega arith) (g .loop .inv .1) (found-fault _ _ _ _ (place (c .before .before .before)) (c .before .step .ensures) (c .if1 .taken)) refl
+
+-- the link stands
+stands : (c : tie.Else1 Inv-loop μ-loop) →
+    (let s = c .before .before .before .before .before .before .before .args in fault (s .p) (s .bytes .now) (s .drawn) (Link (s .l) (c .before .before .before .before .before .loop .j)) ≡ 0)
+stands c = sym (c .before .step .ensures) ∙ c .if1 .left
+
+add-read2 : tie.Need-add-read2 Inv-loop μ-loop
+add-read2 c = omega (arith, c .before .before .before .at-link .ensures .1)
+
+read2-requires : tie.Need-read2-requires Inv-loop μ-loop
+read2-requires c κs =
+    let s = c .before .before .before .before .before .before .before .args in
+    omega (arith, stands-whole (s .drawn) (s .p) (s .bytes .now) (Link (s .l) (c .before .before .before .before .before .loop .j)) (stands c), place (c .before .before .before))
+
+cast-position : tie.Need-cast-position Inv-loop μ-loop
+cast-position c = omega (arith, c .read2 .ensures .1)
+
+-- the position that the link names
+position : (c : tie.After-read2 Inv-loop μ-loop) →
+    (let s = c .before .before .before .before .before .before .before .before .args in c .read2 .result ≡ positionOf (s .p) (s .bytes .now) (s .l) (c .before .before .before .before .before .before .loop .j))
+unfolding positionOf
+position c = rw (← place (c .before .before .before .before)) (c .read2 .ensures .0)
+
+marked : (c : tie.After-read2 Inv-loop μ-loop) → c .read2 .result < mostBallots
+marked c =
+    let s = c .before .before .before .before .before .before .before .before in
+    omega (arith, position c, link-position (s .args .drawn) (s .args .p) (s .args .bytes .now) (s .args .l) (c .before .before .before .before .before .before .loop .j) (stands (c .before)), s .pre .0 .few .ballots)
+
+array-write-marks : tie.Need-array-write-marks Inv-loop μ-loop
+array-write-marks c = marked c
+
+add-j : tie.Need-add-j Inv-loop μ-loop
+add-j c = omega (arith, c .before .before .before .before .before .before .before .before .pre .0 .few .ballots)
+
+loop-less : tie.Need-loop-less Inv-loop μ-loop
+loop-less c = omega arith
+
+loop-again : tie.Need-loop-again Inv-loop μ-loop
+loop-again c =
+    let g = c .before .before .before .before .before .before .loop in
+    let s = c .before .before .before .before .before .before .before .before .args in (
+      omega arith,
+      first-more _ _ (g .inv .1) (found-none _ _ _ _ (c .before .before .step .ensures) (c .before .if1 .left)),
+      length-set (g .marks) (c .read2 .result) true ∙ g .inv .2,
+      one-marked (s .p) (s .bytes .now) (s .l) (g .j) (g .inv .2) (marked c) (position c) (g .inv .3),
+    )
+
+returns-2 : tie.Need-returns-2 Inv-loop μ-loop
+unfolding linkFaults
+returns-2 c = row-end _ _ (c .before .loop .j) (omega arith) (omega arith) (c .before .loop .inv .1)
+
+pub link-faults-spec : {M : Type 1} → statement M
+link-faults-spec =
+    tie.close
+    (tie.spec
+    Inv-loop
+    μ-loop
+    loop-holds
+    at-link-requires
+    step-requires
+    returns
+    add-read2
+    read2-requires
+    cast-position
+    array-write-marks
+    add-j
+    loop-less
+    loop-again
+    returns-2)

@@ -1,0 +1,39 @@
+-- Parameters that are the record's, and the verdict by the first fault.
+use mathlib.Core.Path.{_≡_, refl, sym, ap}
+use mathlib.Core.Bool.{Bool}
+use mathlib.Core.List.{List}
+use Prim.Native.Nat.{ℕ, zero, suc}
+use Rattle.laws.specs.declared.Found.{Found}
+use Rattle.laws.specs.declared.Found.the-variants.{Nothing, Fault}
+use Rattle.laws.specs.Faults.{_then_, numberOf, nothing-fault}
+use Rattle.protocol.specs.declared.Parameters.{Parameters}
+use Rattle.protocol.specs.declared.Due.the-variants.{First}
+use Rattle.protocol.specs.declared.Verdict.the-variants.{Accepted, Refused}
+use Rattle.protocol.specs.Rules.{fault}
+use Rattle.protocol.specs.Judging.{found, ballotFaults, partOneFaults, partTwoFaults, partThreeFaults, firstFault, verdictOf, judged}
+use Rattle.protocol.proofs.Faultless.{accepted-nothing}
+
+-- the first command's rule is the same for all parameters
+pub first-alike : (drawn : Bool) (p q : Parameters) (r : List ℕ) → found drawn p r First ≡ found drawn q r First
+unfolding found fault
+first-alike drawn p q r = refl
+
+-- ---- parameters that are the record's
+
+module _ (drawn : Bool) (r : List ℕ) where
+  pub ballots-alike : {p q : Parameters} {g : Found} → p ≡ q → g ≡ ballotFaults drawn p r (p .ballots) → g ≡ ballotFaults drawn q r (q .ballots)
+  ballots-alike e h = rw e at h
+
+  pub rest-alike : {p q : Parameters} {g : Found} → p ≡ q → g ≡ partOneFaults drawn p r then (partTwoFaults drawn p r then partThreeFaults drawn p r)
+      → g ≡ partOneFaults drawn q r then (partTwoFaults drawn q r then partThreeFaults drawn q r)
+  rest-alike e h = rw e at h
+
+  -- ---- the verdict
+
+  pub accepted-is : firstFault drawn r ≡ Nothing → Accepted ≡ judged drawn r
+  accepted-is e = sym (accepted-nothing drawn r .1 e)
+
+  pub refused-is : (k : ℕ) {at : ℕ} → firstFault drawn r ≡ Fault k at → Refused k ≡ judged drawn r
+  unfolding judged verdictOf numberOf
+  refused-is zero e = absurd (nothing-fault (accepted-nothing drawn r .0 (ap (λ (f : Found). verdictOf (numberOf f)) e)) e)
+  refused-is (suc k) e = sym (ap (λ (f : Found). verdictOf (numberOf f)) e)
