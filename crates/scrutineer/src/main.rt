@@ -17,10 +17,9 @@ fn print_refusal(number: u32) {
 
 // A line of a vote, one space, and how often it was announced.
 fn print_line(vote: u32, count: u32) {
-    io::print_decimal(STDOUT_FILENO, vote as u64);
-    io::write_all(STDOUT_FILENO, b" ");
-    io::print_decimal(STDOUT_FILENO, count as u64);
-    io::write_all(STDOUT_FILENO, b"\n");
+    let mut line = [0u8; 22];
+    let n = tally::put_line(&mut line, 0, vote, count);
+    io::write_all(STDOUT_FILENO, &line[..n]);
 }
 
 // A line for each of the first pairs.
@@ -77,7 +76,7 @@ fn print_page(bytes: &[u8]) {
     }
 }
 
-// One byte more than a record may have tells that the input is too long.
+// The buffer holds 65,536 bytes; one byte more is too long.
 fn main() {
     let mut record = io::large_buffer();
     let n = io::read_full(STDIN_FILENO, &mut record);
