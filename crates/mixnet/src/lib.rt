@@ -1,10 +1,8 @@
 // The servers of one column: a row server's work, row three's offsets, and the split behind the third column. A row server is lent its
 // own row, its offsets and the permutation only.
 ghost use mathlib.Core.Path.{_≡_};
-ghost use Prim.Native.Nat.{_+_, _*_, _≤_, _<_};
+ghost use Prim.Native.Nat.{_+_, _<_};
 ghost use lib.ListN.{length};
-ghost use Rattle.laws.specs.Tables.{tabulate};
-ghost use Rattle.protocol.specs.Terms.{item, allBelow};
 ghost use Rattle.protocol.specs.Columns.{rowServer, thirdOffsets, secondHalves, rowRefusal, pairRefusal};
 ghost use Rattle.protocol.specs.Inputs.{writtenOf, afterwards};
 ghost use Rattle.mixnet.specs.Ready.{RowReady, PairReady};
