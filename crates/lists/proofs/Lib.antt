@@ -1,0 +1,4 @@
+pub mod Ready
+pub mod Filling
+pub mod Splits
+pub mod Agreement
