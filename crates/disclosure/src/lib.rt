@@ -1,0 +1,133 @@
+// Part three of a record: its two entries, with sides given and with sides drawn.
+ghost use mathlib.Core.Path.{_≡_};
+ghost use mathlib.Core.List.{_++_};
+ghost use Prim.Native.Nat.{_≤_};
+ghost use lib.ListN.{length};
+ghost use Rattle.protocol.specs.Terms.{mostBallots};
+ghost use Rattle.protocol.specs.Drawing as drawing;
+ghost use Rattle.protocol.specs.Drawing.{drawnSides};
+ghost use Rattle.protocol.specs.Inputs.{given, partThreeRefusal, partThreeDrawnRefusal, writtenOf, afterwards};
+ghost use Rattle.protocol.specs.Servers.{thirdPart, sidesFor};
+use protocol::Written;
+
+// Entry: part three into a buffer of its own, sides given. All that can be refused is tested before the first byte is written.
+pub fn part_three(
+    modulus: u32,
+    ballots: u32,
+    compared: u32,
+    ids: &[u32],
+    votes: &[u32],
+    numbers: &[u32],
+    permutations: &[u16],
+    keys: &[u8],
+    dice: &[u8],
+    mask: u32,
+    sides: &[u8],
+    out: &mut [u8],
+) -> Written
+    ensures answer { λ r. ⌜ r ≡ writtenOf (partThreeRefusal (given modulus ballots compared (now (ids .entry)) (now (votes .entry)) (now (numbers .entry)) (now (permutations .entry)) (now (keys .entry))) (now (dice .entry)) mask (now (sides .entry)) (length (now (out .entry)))) ⌝ }
+    ensures output { λ _. ⌜ now (out .exit) ≡ afterwards (partThreeRefusal (given modulus ballots compared (now (ids .entry)) (now (votes .entry)) (now (numbers .entry)) (now (permutations .entry)) (now (keys .entry))) (now (dice .entry)) mask (now (sides .entry)) (length (now (out .entry)))) (now (out .entry)) (thirdPart (given modulus ballots compared (now (ids .entry)) (now (votes .entry)) (now (numbers .entry)) (now (permutations .entry)) (now (keys .entry))) (now (dice .entry)) mask (now (sides .entry))) ⌝ }
+{
+    let k = refusals::part_three(
+        modulus,
+        ballots,
+        compared,
+        ids,
+        votes,
+        numbers,
+        permutations,
+        keys,
+        dice,
+        mask,
+        sides,
+        out.len(),
+    );
+    if k != 0 {
+        return Written::Refused(k);
+    }
+    thirdpart::write(
+        modulus,
+        ballots,
+        compared,
+        ids,
+        votes,
+        numbers,
+        permutations,
+        keys,
+        dice,
+        mask,
+        sides,
+        out,
+    );
+    Written::Done
+}
+
+// The sides drawn from the dice and parts one and two as lent.
+fn fill_sides(dice: &[u8], one: &[u8], two: &[u8], out: &mut [u8])
+    requires { ⌜ (length (now dice) ≡ 30) × (length (now out) ≤ mostBallots) ⌝ }
+    ensures { λ _. ⌜ now (out .exit) ≡ drawnSides (length (now (out .entry))) (drawing.challenge (now (dice .entry)) (now (one .entry) ++ now (two .entry))) ⌝ }
+{
+    let text = challenge::text_of(dice, one, two);
+    let mut j: usize = 0;
+    while j < out.len() {
+        out[j] = challenge::drawn_side(&text, j) as u8;
+        j += 1;
+    }
+}
+
+// Entry: part three into a buffer of its own, sides drawn from the dice and parts one and two as lent.
+pub fn part_three_drawn(
+    modulus: u32,
+    ballots: u32,
+    compared: u32,
+    ids: &[u32],
+    votes: &[u32],
+    numbers: &[u32],
+    permutations: &[u16],
+    keys: &[u8],
+    dice: &[u8],
+    mask: u32,
+    one: &[u8],
+    two: &[u8],
+    out: &mut [u8],
+) -> Written
+    ensures answer { λ r. ⌜ r ≡ writtenOf (partThreeDrawnRefusal (given modulus ballots compared (now (ids .entry)) (now (votes .entry)) (now (numbers .entry)) (now (permutations .entry)) (now (keys .entry))) (now (dice .entry)) mask (length (now (one .entry))) (length (now (two .entry))) (length (now (out .entry)))) ⌝ }
+    ensures output { λ _. ⌜ now (out .exit) ≡ afterwards (partThreeDrawnRefusal (given modulus ballots compared (now (ids .entry)) (now (votes .entry)) (now (numbers .entry)) (now (permutations .entry)) (now (keys .entry))) (now (dice .entry)) mask (length (now (one .entry))) (length (now (two .entry))) (length (now (out .entry)))) (now (out .entry)) (thirdPart (given modulus ballots compared (now (ids .entry)) (now (votes .entry)) (now (numbers .entry)) (now (permutations .entry)) (now (keys .entry))) (now (dice .entry)) mask (sidesFor (given modulus ballots compared (now (ids .entry)) (now (votes .entry)) (now (numbers .entry)) (now (permutations .entry)) (now (keys .entry))) (now (dice .entry)) (now (one .entry)) (now (two .entry)))) ⌝ }
+{
+    let k = refusals::part_three_drawn(
+        modulus,
+        ballots,
+        compared,
+        ids,
+        votes,
+        numbers,
+        permutations,
+        keys,
+        dice,
+        mask,
+        one.len(),
+        two.len(),
+        out.len(),
+    );
+    if k != 0 {
+        return Written::Refused(k);
+    }
+    let n = ballots as usize;
+    let mut sides = [0u8; 1024];
+    fill_sides(dice, one, two, &mut sides[..n]);
+    thirdpart::write(
+        modulus,
+        ballots,
+        compared,
+        ids,
+        votes,
+        numbers,
+        permutations,
+        keys,
+        dice,
+        mask,
+        &sides[..n],
+        out,
+    );
+    Written::Done
+}

@@ -1,0 +1,38 @@
+-- `opened::put_if_opened` meets its contract: by the list's bit of the mask.
+use mathlib.Core.List.{[]}
+use Prim.Native.Nat.{_*_}
+use native.Mathlib.Omega.{arith}
+use borrow.Author.Needs.{needs}
+use Rattle.laws.specs.Masks.{bit}
+use Rattle.laws.specs.Writing.{start}
+use Rattle.opened.proofs.Opened.{opened-one, when-clear, when-set}
+use Rattle.opened.proofs.put_if_opened.Statement.{statement}
+use Rattle.opened.proofs.put_if_opened.Tie as tie
+
+cast-if1 : tie.Need-cast-if1
+cast-if1 c = search needs
+
+shr-if1 : tie.Need-shr-if1
+shr-if1 c = search needs
+
+returns : tie.Need-returns
+returns c =
+    let s = c .before .before .before .before .before in
+    when-set (bit (s .args .mask) (s .args .l)) _ [] (c .if1 .taken) (start (s .args .out .now) (s .args .at) (omega arith))
+
+put-full-requires : tie.Need-put-full-requires
+put-full-requires c κs =
+    let s = c .before .before .before .before .before .before in
+    (s .pre .0, (s .pre .1 .0, opened-one (bit (s .args .mask) (s .args .l)) (s .args .at) (s .args .n * 220) (c .before .if1 .left) (s .pre .1 .1)))
+
+same-length : tie.Need-same-length
+same-length c = search needs
+
+returns-2 : tie.Need-returns-2
+returns-2 c =
+    let s = c .before .before .before .before .before .before .before .before .before .args in
+    when-clear (bit (s .mask) (s .l)) _ [] (c .before .before .before .before .if1 .left) (c .before .before .put-full .ensures)
+
+pub put-if-opened-spec : {M : Type 1} → statement M
+put-if-opened-spec =
+    tie.close (tie.spec cast-if1 shr-if1 returns put-full-requires same-length returns-2)
