@@ -1,0 +1,89 @@
+-- `election::hold` meets its contract: inputs that no call refuses give a record that the judge accepts, so that it never rejects.
+use mathlib.Core.Path.{sym, _∙_}
+use borrow.Author.Needs.{needs}
+use native.Mathlib.Omega.{arith}
+use Rattle.laws.specs.Bytes.{Below}
+use Rattle.election.proofs.Ending.{refused, accepted, never-rejected}
+use Rattle.election.proofs.hold.Statement.{statement}
+use Rattle.election.proofs.hold.Tie as tie
+
+-- where nothing was refused
+abbrev tested : tie.After-judge-plainly → tie.Else1
+tested c = c .before .before .before .before .before .before .before .before .before .before .before .before .before .before .before
+
+ids-fit : (c : tie.Else1) → Below 4294967296 (c .before .before .before .before .before .before .before .before .before .before .before .before .before .before .args .ids .now)
+ids-fit c i l = omega (arith, c .before .before .before .before .before .before .before .before .before .before .before .before .before .shared-slice-known .given i)
+
+refuse-requires : tie.Need-refuse-requires
+refuse-requires c κs = search needs
+
+returns : tie.Need-returns
+returns c = refused _ _ _ _ _ _ _ _ _ _ _ _ _ _ _ _ (c .before .refuse .ensures) (c .if1 .taken)
+
+write-requires : tie.Need-write-requires
+write-requires c κs = search needs
+
+judge-plainly-requires : tie.Need-judge-plainly-requires
+judge-plainly-requires c κs = search needs
+
+enum-told : tie.Need-enum-told
+enum-told c = search needs
+
+enum-known-broken : tie.Need-enum-known-broken
+enum-known-broken c = search needs
+
+same-length : tie.Need-same-length
+same-length c = search needs
+
+same-length-2 : tie.Need-same-length-2
+same-length-2 c = search needs
+
+same-length-3 : tie.Need-same-length-3
+same-length-3 c = search needs
+
+same-length-4 : tie.Need-same-length-4
+same-length-4 c = search needs
+
+returns-2 : tie.Need-returns-2
+returns-2 c =
+    accepted _ _ _ _ _ _ _ _ _ _ _ (tested (c .before .before) .before .refuse .ensures) (tested (c .before .before) .if1 .left) (ids-fit (tested (c .before .before))) _ _ _ _
+    (c .before .before .before .before .before .before .before .before .before .before .before .before .write .ensures)
+
+same-length-5 : tie.Need-same-length-5
+same-length-5 c = search needs
+
+same-length-6 : tie.Need-same-length-6
+same-length-6 c = search needs
+
+same-length-7 : tie.Need-same-length-7
+same-length-7 c = search needs
+
+same-length-8 : tie.Need-same-length-8
+same-length-8 c = search needs
+
+returns-3 : tie.Need-returns-3
+returns-3 c =
+    absurd
+    (never-rejected _ _ _ _ _ _ _ _ _ _ _ (tested (c .before .before .before) .before .refuse .ensures) (tested (c .before .before .before) .if1 .left) (ids-fit (tested (c .before .before .before)))
+    (c .before .before .before .before .before .before .before .before .before .before .before .before .before .write .ensures .1 .1 .1) (sym (c .before .before .before .judge-plainly .ensures) ∙ c .before .broken .given .1))
+
+pub hold-spec : {M : Type 1} → statement M
+hold-spec =
+    tie.close
+    (tie.spec
+    refuse-requires
+    returns
+    write-requires
+    judge-plainly-requires
+    enum-told
+    enum-known-broken
+    same-length
+    same-length-2
+    same-length-3
+    same-length-4
+    returns-2
+    same-length-5
+    same-length-6
+    same-length-7
+    same-length-8
+    returns-3)

@@ -1,0 +1,478 @@
+// The three calls of the servers and the judge as one election: what they are lent is tested first, then the parts are written, joined and
+// judged. Mask and sides are each given or drawn: where a switch says drawn, what is lent in their place is not looked at.
+ghost use mathlib.Core.Bool.{true, false};
+ghost use mathlib.Core.Path.{_≡_};
+ghost use mathlib.Core.List.{_++_};
+ghost use Prim.Native.Nat.{ℕ, _+_};
+ghost use lib.ListN.{length};
+ghost use Rattle.laws.specs.Sorting.{sort};
+ghost use Rattle.protocol.specs.declared.Verdict.the-variants as verdicts;
+ghost use Rattle.protocol.specs.Rules.{rightShape};
+ghost use Rattle.protocol.specs.Inputs.{given, afterwards};
+ghost use Rattle.protocol.specs.Servers.{firstPart, secondPart, thirdPart};
+ghost use Rattle.protocol.specs.Judging.{judged};
+ghost use Rattle.protocol.specs.Results.{announcedVotes};
+ghost use Rattle.protocol.specs.Election.{maskBy, sidesBy, secondRefusal, thirdRefusal, electionTwo, electionThree, electionRecord};
+ghost use Rattle.election.specs.Holding.{choiceOf, electionRefusal, outcomeOf};
+use protocol::Draw;
+use protocol::Verdict;
+
+// The answer of an election: the first refusal of its calls or of the joined buffer's length, or else the verdict on the joined record.
+pub enum Outcome {
+    Refused(u32),
+    Accepted,
+    Rejected(u32),
+}
+
+// What the second call refuses.
+fn refuse_second(
+    mask_given: bool,
+    modulus: u32,
+    ballots: u32,
+    compared: u32,
+    ids: &[u32],
+    votes: &[u32],
+    numbers: &[u32],
+    permutations: &[u16],
+    keys: &[u8],
+    dice: &[u8],
+    mask: u32,
+    one_len: usize,
+    out_len: usize,
+) -> u32
+    ensures { λ r. ⌜ r ≡ secondRefusal (given modulus ballots compared (now (ids .entry)) (now (votes .entry)) (now (numbers .entry)) (now (permutations .entry)) (now (keys .entry))) (choiceOf «mask_given» mask) (now (dice .entry)) «one_len» «out_len» ⌝ }
+{
+    if mask_given {
+        return refusals::part_two(
+            modulus,
+            ballots,
+            compared,
+            ids,
+            votes,
+            numbers,
+            permutations,
+            keys,
+            dice,
+            mask,
+            out_len,
+        );
+    }
+    refusals::part_two_drawn(
+        modulus,
+        ballots,
+        compared,
+        ids,
+        votes,
+        numbers,
+        permutations,
+        keys,
+        dice,
+        one_len,
+        out_len,
+    )
+}
+
+// What the third call refuses, whichever mask of the right shape it is given.
+fn refuse_third(
+    sides_given: bool,
+    modulus: u32,
+    ballots: u32,
+    compared: u32,
+    ids: &[u32],
+    votes: &[u32],
+    numbers: &[u32],
+    permutations: &[u16],
+    keys: &[u8],
+    dice: &[u8],
+    sides: &[u8],
+    one_len: usize,
+    two_len: usize,
+    out_len: usize,
+) -> u32
+    ensures { λ r. ⌜ ((mask : ℕ) → rightShape compared mask ≡ true → r ≡ thirdRefusal (given modulus ballots compared (now (ids .entry)) (now (votes .entry)) (now (numbers .entry)) (now (permutations .entry)) (now (keys .entry))) (choiceOf «sides_given» (now (sides .entry))) (now (dice .entry)) mask «one_len» «two_len» «out_len») ⌝ }
+{
+    if sides_given {
+        return refusals::part_three_shaped(
+            modulus,
+            ballots,
+            compared,
+            ids,
+            votes,
+            numbers,
+            permutations,
+            keys,
+            dice,
+            true,
+            sides,
+            out_len,
+        );
+    }
+    refusals::part_three_drawn_shaped(
+        modulus,
+        ballots,
+        compared,
+        ids,
+        votes,
+        numbers,
+        permutations,
+        keys,
+        dice,
+        true,
+        one_len,
+        two_len,
+        out_len,
+    )
+}
+
+// All that can be refused.
+fn refuse(
+    mask_given: bool,
+    sides_given: bool,
+    modulus: u32,
+    ballots: u32,
+    compared: u32,
+    ids: &[u32],
+    votes: &[u32],
+    numbers: &[u32],
+    permutations: &[u16],
+    keys: &[u8],
+    first_dice: &[u8],
+    mask: u32,
+    second_dice: &[u8],
+    sides: &[u8],
+    one_len: usize,
+    two_len: usize,
+    three_len: usize,
+    joined_len: usize,
+) -> u32
+    ensures { λ r. ⌜ r ≡ electionRefusal (given modulus ballots compared (now (ids .entry)) (now (votes .entry)) (now (numbers .entry)) (now (permutations .entry)) (now (keys .entry))) (choiceOf «mask_given» mask) (now («first_dice» .entry)) (choiceOf «sides_given» (now (sides .entry))) (now («second_dice» .entry)) «one_len» «two_len» «three_len» «joined_len» ⌝ }
+{
+    let first = refusals::part_one(
+        modulus,
+        ballots,
+        compared,
+        ids,
+        votes,
+        numbers,
+        permutations,
+        keys,
+        one_len,
+    );
+    if first != 0 {
+        return first;
+    }
+    let second = refuse_second(
+        mask_given,
+        modulus,
+        ballots,
+        compared,
+        ids,
+        votes,
+        numbers,
+        permutations,
+        keys,
+        first_dice,
+        mask,
+        one_len,
+        two_len,
+    );
+    if second != 0 {
+        return second;
+    }
+    let third = refuse_third(
+        sides_given,
+        modulus,
+        ballots,
+        compared,
+        ids,
+        votes,
+        numbers,
+        permutations,
+        keys,
+        second_dice,
+        sides,
+        one_len,
+        two_len,
+        three_len,
+    );
+    if third != 0 {
+        return third;
+    }
+    if joined_len != one_len + two_len + three_len {
+        return 18;
+    }
+    0
+}
+
+// The second call, and the mask that it wrote.
+fn second(
+    mask_given: bool,
+    modulus: u32,
+    ballots: u32,
+    compared: u32,
+    ids: &[u32],
+    votes: &[u32],
+    numbers: &[u32],
+    permutations: &[u16],
+    keys: &[u8],
+    dice: &[u8],
+    mask: u32,
+    one: &[u8],
+    two: &mut [u8],
+) -> u32
+    requires { ⌜ secondRefusal (given modulus ballots compared (now ids) (now votes) (now numbers) (now permutations) (now keys)) (choiceOf «mask_given» mask) (now dice) (length (now one)) (length (now two)) ≡ 0 ⌝ }
+    ensures mask { λ r. ⌜ r ≡ maskBy (given modulus ballots compared (now (ids .entry)) (now (votes .entry)) (now (numbers .entry)) (now (permutations .entry)) (now (keys .entry))) (choiceOf «mask_given» mask) (now (dice .entry)) (now (one .entry)) ⌝ }
+    ensures output { λ _. ⌜ now (two .exit) ≡ secondPart (given modulus ballots compared (now (ids .entry)) (now (votes .entry)) (now (numbers .entry)) (now (permutations .entry)) (now (keys .entry))) (now (dice .entry)) (maskBy (given modulus ballots compared (now (ids .entry)) (now (votes .entry)) (now (numbers .entry)) (now (permutations .entry)) (now (keys .entry))) (choiceOf «mask_given» mask) (now (dice .entry)) (now (one .entry))) ⌝ }
+{
+    if mask_given {
+        comparison::part_two(
+            modulus,
+            ballots,
+            compared,
+            ids,
+            votes,
+            numbers,
+            permutations,
+            keys,
+            dice,
+            mask,
+            two,
+        );
+        return mask;
+    }
+    comparison::part_two_drawn(
+        modulus,
+        ballots,
+        compared,
+        ids,
+        votes,
+        numbers,
+        permutations,
+        keys,
+        dice,
+        one,
+        two,
+    );
+    match comparison::draw(modulus, ballots, compared, dice, one) {
+        Draw::Mask(drawn) => drawn,
+        Draw::Refused(_) => 0,
+    }
+}
+
+// The third call.
+fn third(
+    sides_given: bool,
+    modulus: u32,
+    ballots: u32,
+    compared: u32,
+    ids: &[u32],
+    votes: &[u32],
+    numbers: &[u32],
+    permutations: &[u16],
+    keys: &[u8],
+    dice: &[u8],
+    mask: u32,
+    sides: &[u8],
+    one: &[u8],
+    two: &[u8],
+    three: &mut [u8],
+)
+    requires { ⌜ thirdRefusal (given modulus ballots compared (now ids) (now votes) (now numbers) (now permutations) (now keys)) (choiceOf «sides_given» (now sides)) (now dice) mask (length (now one)) (length (now two)) (length (now three)) ≡ 0 ⌝ }
+    ensures { λ _. ⌜ now (three .exit) ≡ thirdPart (given modulus ballots compared (now (ids .entry)) (now (votes .entry)) (now (numbers .entry)) (now (permutations .entry)) (now (keys .entry))) (now (dice .entry)) mask (sidesBy (given modulus ballots compared (now (ids .entry)) (now (votes .entry)) (now (numbers .entry)) (now (permutations .entry)) (now (keys .entry))) (choiceOf «sides_given» (now (sides .entry))) (now (dice .entry)) (now (one .entry)) (now (two .entry))) ⌝ }
+{
+    if sides_given {
+        disclosure::part_three(
+            modulus,
+            ballots,
+            compared,
+            ids,
+            votes,
+            numbers,
+            permutations,
+            keys,
+            dice,
+            mask,
+            sides,
+            three,
+        );
+        return;
+    }
+    disclosure::part_three_drawn(
+        modulus,
+        ballots,
+        compared,
+        ids,
+        votes,
+        numbers,
+        permutations,
+        keys,
+        dice,
+        mask,
+        one,
+        two,
+        three,
+    );
+}
+
+// The three buffers, joined in order.
+fn join(one: &[u8], two: &[u8], three: &[u8], joined: &mut [u8])
+    requires { ⌜ length (now joined) ≡ length (now one) + length (now two) + length (now three) ⌝ }
+    ensures { λ _. ⌜ now (joined .exit) ≡ now (one .entry) ++ (now (two .entry) ++ now (three .entry)) ⌝ }
+{
+    let a = wire::copy(joined, 0, one);
+    let b = wire::copy(joined, a, two);
+    wire::copy(joined, b, three);
+}
+
+// The three calls, where none refuses, and what they left, joined.
+fn write(
+    mask_given: bool,
+    sides_given: bool,
+    modulus: u32,
+    ballots: u32,
+    compared: u32,
+    ids: &[u32],
+    votes: &[u32],
+    numbers: &[u32],
+    permutations: &[u16],
+    keys: &[u8],
+    first_dice: &[u8],
+    mask: u32,
+    second_dice: &[u8],
+    sides: &[u8],
+    one: &mut [u8],
+    two: &mut [u8],
+    three: &mut [u8],
+    joined: &mut [u8],
+)
+    requires { ⌜ electionRefusal (given modulus ballots compared (now ids) (now votes) (now numbers) (now permutations) (now keys)) (choiceOf «mask_given» mask) (now «first_dice») (choiceOf «sides_given» (now sides)) (now «second_dice») (length (now one)) (length (now two)) (length (now three)) (length (now joined)) ≡ 0 ⌝ }
+    ensures one { λ _. ⌜ now (one .exit) ≡ firstPart (given modulus ballots compared (now (ids .entry)) (now (votes .entry)) (now (numbers .entry)) (now (permutations .entry)) (now (keys .entry))) ⌝ }
+    ensures two { λ _. ⌜ now (two .exit) ≡ (electionTwo (given modulus ballots compared (now (ids .entry)) (now (votes .entry)) (now (numbers .entry)) (now (permutations .entry)) (now (keys .entry))) (choiceOf «mask_given» mask) (now («first_dice» .entry))) ⌝ }
+    ensures three { λ _. ⌜ now (three .exit) ≡ (electionThree (given modulus ballots compared (now (ids .entry)) (now (votes .entry)) (now (numbers .entry)) (now (permutations .entry)) (now (keys .entry))) (choiceOf «mask_given» mask) (now («first_dice» .entry)) (choiceOf «sides_given» (now (sides .entry))) (now («second_dice» .entry))) ⌝ }
+    ensures joined { λ _. ⌜ now (joined .exit) ≡ (electionRecord (given modulus ballots compared (now (ids .entry)) (now (votes .entry)) (now (numbers .entry)) (now (permutations .entry)) (now (keys .entry))) (choiceOf «mask_given» mask) (now («first_dice» .entry)) (choiceOf «sides_given» (now (sides .entry))) (now («second_dice» .entry))) ⌝ }
+{
+    board::part_one(
+        modulus,
+        ballots,
+        compared,
+        ids,
+        votes,
+        numbers,
+        permutations,
+        keys,
+        one,
+    );
+    let used = second(
+        mask_given,
+        modulus,
+        ballots,
+        compared,
+        ids,
+        votes,
+        numbers,
+        permutations,
+        keys,
+        first_dice,
+        mask,
+        one,
+        two,
+    );
+    third(
+        sides_given,
+        modulus,
+        ballots,
+        compared,
+        ids,
+        votes,
+        numbers,
+        permutations,
+        keys,
+        second_dice,
+        used,
+        sides,
+        one,
+        two,
+        three,
+    );
+    join(one, two, three, joined);
+}
+
+// Entry: the election. Whatever the buffers held, where nothing is refused they hold the parts and the record, which plain judging accepts and
+// which announces the votes given, smallest first; where mask and sides are drawn, drawn judging accepts it too.
+pub fn hold(
+    mask_given: bool,
+    sides_given: bool,
+    modulus: u32,
+    ballots: u32,
+    compared: u32,
+    ids: &[u32],
+    votes: &[u32],
+    numbers: &[u32],
+    permutations: &[u16],
+    keys: &[u8],
+    first_dice: &[u8],
+    mask: u32,
+    second_dice: &[u8],
+    sides: &[u8],
+    one: &mut [u8],
+    two: &mut [u8],
+    three: &mut [u8],
+    joined: &mut [u8],
+) -> Outcome
+    ensures answer { λ r. ⌜ r ≡ outcomeOf (electionRefusal (given modulus ballots compared (now (ids .entry)) (now (votes .entry)) (now (numbers .entry)) (now (permutations .entry)) (now (keys .entry))) (choiceOf «mask_given» mask) (now («first_dice» .entry)) (choiceOf «sides_given» (now (sides .entry))) (now («second_dice» .entry)) (length (now (one .entry))) (length (now (two .entry))) (length (now (three .entry))) (length (now (joined .entry)))) (judged false (electionRecord (given modulus ballots compared (now (ids .entry)) (now (votes .entry)) (now (numbers .entry)) (now (permutations .entry)) (now (keys .entry))) (choiceOf «mask_given» mask) (now («first_dice» .entry)) (choiceOf «sides_given» (now (sides .entry))) (now («second_dice» .entry)))) ⌝ }
+    ensures one { λ _. ⌜ now (one .exit) ≡ afterwards (electionRefusal (given modulus ballots compared (now (ids .entry)) (now (votes .entry)) (now (numbers .entry)) (now (permutations .entry)) (now (keys .entry))) (choiceOf «mask_given» mask) (now («first_dice» .entry)) (choiceOf «sides_given» (now (sides .entry))) (now («second_dice» .entry)) (length (now (one .entry))) (length (now (two .entry))) (length (now (three .entry))) (length (now (joined .entry)))) (now (one .entry)) (firstPart (given modulus ballots compared (now (ids .entry)) (now (votes .entry)) (now (numbers .entry)) (now (permutations .entry)) (now (keys .entry)))) ⌝ }
+    ensures two { λ _. ⌜ now (two .exit) ≡ afterwards (electionRefusal (given modulus ballots compared (now (ids .entry)) (now (votes .entry)) (now (numbers .entry)) (now (permutations .entry)) (now (keys .entry))) (choiceOf «mask_given» mask) (now («first_dice» .entry)) (choiceOf «sides_given» (now (sides .entry))) (now («second_dice» .entry)) (length (now (one .entry))) (length (now (two .entry))) (length (now (three .entry))) (length (now (joined .entry)))) (now (two .entry)) (electionTwo (given modulus ballots compared (now (ids .entry)) (now (votes .entry)) (now (numbers .entry)) (now (permutations .entry)) (now (keys .entry))) (choiceOf «mask_given» mask) (now («first_dice» .entry))) ⌝ }
+    ensures three { λ _. ⌜ now (three .exit) ≡ afterwards (electionRefusal (given modulus ballots compared (now (ids .entry)) (now (votes .entry)) (now (numbers .entry)) (now (permutations .entry)) (now (keys .entry))) (choiceOf «mask_given» mask) (now («first_dice» .entry)) (choiceOf «sides_given» (now (sides .entry))) (now («second_dice» .entry)) (length (now (one .entry))) (length (now (two .entry))) (length (now (three .entry))) (length (now (joined .entry)))) (now (three .entry)) (electionThree (given modulus ballots compared (now (ids .entry)) (now (votes .entry)) (now (numbers .entry)) (now (permutations .entry)) (now (keys .entry))) (choiceOf «mask_given» mask) (now («first_dice» .entry)) (choiceOf «sides_given» (now (sides .entry))) (now («second_dice» .entry))) ⌝ }
+    ensures joined { λ _. ⌜ now (joined .exit) ≡ afterwards (electionRefusal (given modulus ballots compared (now (ids .entry)) (now (votes .entry)) (now (numbers .entry)) (now (permutations .entry)) (now (keys .entry))) (choiceOf «mask_given» mask) (now («first_dice» .entry)) (choiceOf «sides_given» (now (sides .entry))) (now («second_dice» .entry)) (length (now (one .entry))) (length (now (two .entry))) (length (now (three .entry))) (length (now (joined .entry)))) (now (joined .entry)) (electionRecord (given modulus ballots compared (now (ids .entry)) (now (votes .entry)) (now (numbers .entry)) (now (permutations .entry)) (now (keys .entry))) (choiceOf «mask_given» mask) (now («first_dice» .entry)) (choiceOf «sides_given» (now (sides .entry))) (now («second_dice» .entry))) ⌝ }
+    ensures accepted { λ r. ⌜ ((electionRefusal (given modulus ballots compared (now (ids .entry)) (now (votes .entry)) (now (numbers .entry)) (now (permutations .entry)) (now (keys .entry))) (choiceOf «mask_given» mask) (now («first_dice» .entry)) (choiceOf «sides_given» (now (sides .entry))) (now («second_dice» .entry)) (length (now (one .entry))) (length (now (two .entry))) (length (now (three .entry))) (length (now (joined .entry)))) ≡ 0 → r ≡ Outcome.Accepted) ⌝ }
+    ensures announced { λ _. ⌜ ((electionRefusal (given modulus ballots compared (now (ids .entry)) (now (votes .entry)) (now (numbers .entry)) (now (permutations .entry)) (now (keys .entry))) (choiceOf «mask_given» mask) (now («first_dice» .entry)) (choiceOf «sides_given» (now (sides .entry))) (now («second_dice» .entry)) (length (now (one .entry))) (length (now (two .entry))) (length (now (three .entry))) (length (now (joined .entry)))) ≡ 0 → announcedVotes (now (joined .exit)) ≡ sort (now (votes .entry))) ⌝ }
+    ensures drawn { λ _. ⌜ («mask_given» ≡ false → «sides_given» ≡ false → (electionRefusal (given modulus ballots compared (now (ids .entry)) (now (votes .entry)) (now (numbers .entry)) (now (permutations .entry)) (now (keys .entry))) (choiceOf «mask_given» mask) (now («first_dice» .entry)) (choiceOf «sides_given» (now (sides .entry))) (now («second_dice» .entry)) (length (now (one .entry))) (length (now (two .entry))) (length (now (three .entry))) (length (now (joined .entry)))) ≡ 0 → judged true (now (joined .exit)) ≡ verdicts.Accepted) ⌝ }
+{
+    let k = refuse(
+        mask_given,
+        sides_given,
+        modulus,
+        ballots,
+        compared,
+        ids,
+        votes,
+        numbers,
+        permutations,
+        keys,
+        first_dice,
+        mask,
+        second_dice,
+        sides,
+        one.len(),
+        two.len(),
+        three.len(),
+        joined.len(),
+    );
+    if k != 0 {
+        return Outcome::Refused(k);
+    }
+    write(
+        mask_given,
+        sides_given,
+        modulus,
+        ballots,
+        compared,
+        ids,
+        votes,
+        numbers,
+        permutations,
+        keys,
+        first_dice,
+        mask,
+        second_dice,
+        sides,
+        one,
+        two,
+        three,
+        joined,
+    );
+    match verifier::judge_plainly(joined) {
+        Verdict::Accepted => Outcome::Accepted,
+        Verdict::Refused(broken) => Outcome::Rejected(broken),
+    }
+}
