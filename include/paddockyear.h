@@ -35,6 +35,49 @@ uint32_t paddockyear_third_row_offsets(uint32_t modulus, uint32_t n, const uint3
 uint32_t paddockyear_split(uint32_t modulus, uint32_t n, const uint32_t *numbers, size_t numbers_length, const uint32_t *first_halves,
                            size_t first_halves_length, uint32_t *out, size_t out_length);
 
+/* The record writer. Every part is given all inputs: M, n and m; n ids and n votes; 5n + 18mn numbers; 6mn places of permutations; and
+ * 192n + 384mn bytes of keys, in the scope document's flat order. dice are 30 characters, sides n bytes. Each part goes into a buffer of
+ * exactly its length: 8 + 197n + 392mn, 35 + 10mn, 32 + 119n + 332mn bytes. 0, or 3, 18, 5, 6, 7, 10, 11, 19. */
+uint32_t paddockyear_part_one(
+    uint32_t modulus, uint32_t ballots, uint32_t compared, const uint32_t *ids, size_t ids_length,
+    const uint32_t *votes, size_t votes_length, const uint32_t *numbers, size_t numbers_length, const uint16_t *permutations,
+    size_t permutations_length, const uint8_t *keys, size_t keys_length, uint8_t *out, size_t out_length);
+uint32_t paddockyear_part_two(
+    uint32_t modulus, uint32_t ballots, uint32_t compared, const uint32_t *ids, size_t ids_length,
+    const uint32_t *votes, size_t votes_length, const uint32_t *numbers, size_t numbers_length, const uint16_t *permutations,
+    size_t permutations_length, const uint8_t *keys, size_t keys_length, const uint8_t *dice, size_t dice_length, uint32_t mask, uint8_t *out,
+    size_t out_length);
+uint32_t paddockyear_part_two_drawn(
+    uint32_t modulus, uint32_t ballots, uint32_t compared, const uint32_t *ids, size_t ids_length,
+    const uint32_t *votes, size_t votes_length, const uint32_t *numbers, size_t numbers_length, const uint16_t *permutations,
+    size_t permutations_length, const uint8_t *keys, size_t keys_length, const uint8_t *dice, size_t dice_length, const uint8_t *one,
+    size_t one_length, uint8_t *out, size_t out_length);
+uint32_t paddockyear_part_three(
+    uint32_t modulus, uint32_t ballots, uint32_t compared, const uint32_t *ids, size_t ids_length,
+    const uint32_t *votes, size_t votes_length, const uint32_t *numbers, size_t numbers_length, const uint16_t *permutations,
+    size_t permutations_length, const uint8_t *keys, size_t keys_length, const uint8_t *dice, size_t dice_length, uint32_t mask,
+    const uint8_t *sides, size_t sides_length, uint8_t *out, size_t out_length);
+uint32_t paddockyear_part_three_drawn(
+    uint32_t modulus, uint32_t ballots, uint32_t compared, const uint32_t *ids, size_t ids_length,
+    const uint32_t *votes, size_t votes_length, const uint32_t *numbers, size_t numbers_length, const uint16_t *permutations,
+    size_t permutations_length, const uint8_t *keys, size_t keys_length, const uint8_t *dice, size_t dice_length, uint32_t mask,
+    const uint8_t *one, size_t one_length, const uint8_t *two, size_t two_length, uint8_t *out, size_t out_length);
+
+/* The mask that part two draws from the dice and part one, into *mask. 0, or 3, 18, 6. */
+uint32_t paddockyear_draw_mask(uint32_t modulus, uint32_t ballots, uint32_t compared, const uint8_t *dice, size_t dice_length,
+                               const uint8_t *one, size_t one_length, uint32_t *mask);
+
+/* The three parts, their join, and plain judging of it, in one call; mask and sides are drawn where mask_given or sides_given is 0, and what
+ * is lent in their place is not looked at. 0: all four buffers are written and the record is accepted. Else the first refusal of the three
+ * calls, or 18 for the joined buffer's length; all is tested before the first write. */
+uint32_t paddockyear_election(
+    uint32_t mask_given, uint32_t sides_given, uint32_t modulus, uint32_t ballots, uint32_t compared, const uint32_t *ids, size_t ids_length,
+    const uint32_t *votes, size_t votes_length, const uint32_t *numbers, size_t numbers_length, const uint16_t *permutations,
+    size_t permutations_length, const uint8_t *keys, size_t keys_length,
+    const uint8_t *first_dice, size_t first_dice_length, uint32_t mask, const uint8_t *second_dice, size_t second_dice_length,
+    const uint8_t *sides, size_t sides_length, uint8_t *one, size_t one_length, uint8_t *two, size_t two_length, uint8_t *three,
+    size_t three_length, uint8_t *joined, size_t joined_length);
+
 /* Judging: 0 for accepted, else the number of the first rule broken. */
 uint32_t paddockyear_judge_plainly(const uint8_t *bytes, size_t length);
 uint32_t paddockyear_judge_as_drawn(const uint8_t *bytes, size_t length);

@@ -7,15 +7,22 @@ ghost use lib.ListN.{length};
 ghost use Rattle.laws.specs.Faults.{numberOf};
 ghost use Rattle.laws.specs.Tests.{differ, choose};
 ghost use Rattle.keccak.specs.Keccak.{keccakF};
-ghost use Rattle.sha3.specs.Sha3.{Rate, digest, sha3-224, sha3-256};
+ghost use Rattle.sha3.specs.Sha3.{sha3-224, sha3-256};
 ghost use Rattle.protocol.specs.Tablet as tablets;
 ghost use Rattle.protocol.specs.Tablet.{tabletCommand, tabletRefusal};
 ghost use Rattle.protocol.specs.Columns.{rowServer, thirdOffsets, secondHalves, rowRefusal, pairRefusal};
-ghost use Rattle.protocol.specs.Inputs.{afterwards};
+ghost use Rattle.protocol.specs.Answers.{writtenNumber};
+ghost use Rattle.protocol.specs.Drawing.{challenge, drawnMask};
+ghost use Rattle.protocol.specs.Inputs.{given, partOneRefusal, partTwoRefusal, partTwoDrawnRefusal, partThreeRefusal, partThreeDrawnRefusal, afterwards};
+ghost use Rattle.protocol.specs.Servers.{firstPart, secondPart, maskFor, thirdPart, sidesFor};
 ghost use Rattle.protocol.specs.Judging.{firstFault};
-ghost use Rattle.protocol.specs.Results.{receiptChecked, announcedVotes, announcedRefusal, distinctVotes, voteCounts, tallyRefusal, inFront};
-ghost use Rattle.exports.specs.Codes.{writtenCode, receiptCode, placeIn};
+ghost use Rattle.protocol.specs.Election.{electionTwo, electionThree, electionRecord};
+ghost use Rattle.election.specs.Holding.{choiceOf, electionRefusal};
+ghost use Rattle.protocol.specs.Results.{receiptChecked, announcedVotes, announcedRefusal, distinctVotes, voteCounts, tallyRefusal, inFront, drawRefusal};
+ghost use Rattle.exports.specs.Codes.{receiptCode, placeIn, outcomeNumber};
+use election::Outcome;
 use laws::Found;
+use protocol::Draw;
 use protocol::Receipt;
 use protocol::Tally;
 use protocol::Written;
@@ -46,24 +53,12 @@ pub extern "C" fn paddockyear_sha3_256(m: &[u8], out: &mut [u8; 32])
     sha3::sha3_256(m, out);
 }
 
-// The digest, as long as `out`, of a message in three parts.
-fn hash_parts(rate: usize, a: &[u8], b: &[u8], c: &[u8], out: &mut [u8])
-    requires { ⌜ Rate rate × (length (now out) ≤ rate) ⌝ }
-    ensures { λ _. ⌜ now (out .exit) ≡ digest rate (length (now (out .entry))) (now (a .entry) ++ (now (b .entry) ++ now (c .entry))) ⌝ }
-{
-    let s = sha3::start();
-    let t = sha3::absorb(s, rate, a);
-    let u = sha3::absorb(t, rate, b);
-    let v = sha3::absorb(u, rate, c);
-    sha3::finish(v, rate, out);
-}
-
 // SHA3-224 of a message in three parts.
 #[no_mangle]
 pub extern "C" fn paddockyear_sha3_224_parts(a: &[u8], b: &[u8], c: &[u8], out: &mut [u8; 28])
     ensures { λ _. ⌜ now (out .exit) ≡ sha3-224 (now (a .entry) ++ (now (b .entry) ++ now (c .entry))) ⌝ }
 {
-    hash_parts(144, a, b, c, out);
+    sha3::hash_parts(144, a, b, c, out);
 }
 
 // SHA3-256 of a message in three parts.
@@ -71,14 +66,14 @@ pub extern "C" fn paddockyear_sha3_224_parts(a: &[u8], b: &[u8], c: &[u8], out: 
 pub extern "C" fn paddockyear_sha3_256_parts(a: &[u8], b: &[u8], c: &[u8], out: &mut [u8; 32])
     ensures { λ _. ⌜ now (out .exit) ≡ sha3-256 (now (a .entry) ++ (now (b .entry) ++ now (c .entry))) ⌝ }
 {
-    hash_parts(136, a, b, c, out);
+    sha3::hash_parts(136, a, b, c, out);
 }
 
 // ---- tablet and mix servers
 
 // A writer's answer: 0, or the refusal's number.
 fn written_code(w: Written) -> u32
-    ensures { λ r. ⌜ r ≡ writtenCode w ⌝ }
+    ensures { λ r. ⌜ r ≡ writtenNumber w ⌝ }
 {
     match w {
         Written::Done => 0,
@@ -152,6 +147,260 @@ pub extern "C" fn paddockyear_split(
     ensures output { λ _. ⌜ now (out .exit) ≡ afterwards (pairRefusal modulus n (now (numbers .entry)) (now («first_halves» .entry)) (length (now (out .entry)))) (now (out .entry)) (secondHalves modulus (now (numbers .entry)) (now («first_halves» .entry))) ⌝ }
 {
     written_code(mixnet::split(modulus, n, numbers, first_halves, out))
+}
+
+// ---- the record writer
+
+// Part one.
+#[no_mangle]
+pub extern "C" fn paddockyear_part_one(
+    modulus: u32,
+    ballots: u32,
+    compared: u32,
+    ids: &[u32],
+    votes: &[u32],
+    numbers: &[u32],
+    permutations: &[u16],
+    keys: &[u8],
+    out: &mut [u8],
+) -> u32
+    ensures answer { λ r. ⌜ r ≡ partOneRefusal (given modulus ballots compared (now (ids .entry)) (now (votes .entry)) (now (numbers .entry)) (now (permutations .entry)) (now (keys .entry))) (length (now (out .entry))) ⌝ }
+    ensures output { λ _. ⌜ now (out .exit) ≡ afterwards (partOneRefusal (given modulus ballots compared (now (ids .entry)) (now (votes .entry)) (now (numbers .entry)) (now (permutations .entry)) (now (keys .entry))) (length (now (out .entry)))) (now (out .entry)) (firstPart (given modulus ballots compared (now (ids .entry)) (now (votes .entry)) (now (numbers .entry)) (now (permutations .entry)) (now (keys .entry)))) ⌝ }
+{
+    written_code(board::part_one(
+        modulus,
+        ballots,
+        compared,
+        ids,
+        votes,
+        numbers,
+        permutations,
+        keys,
+        out,
+    ))
+}
+
+// Part two, mask given.
+#[no_mangle]
+pub extern "C" fn paddockyear_part_two(
+    modulus: u32,
+    ballots: u32,
+    compared: u32,
+    ids: &[u32],
+    votes: &[u32],
+    numbers: &[u32],
+    permutations: &[u16],
+    keys: &[u8],
+    dice: &[u8],
+    mask: u32,
+    out: &mut [u8],
+) -> u32
+    ensures answer { λ r. ⌜ r ≡ partTwoRefusal (given modulus ballots compared (now (ids .entry)) (now (votes .entry)) (now (numbers .entry)) (now (permutations .entry)) (now (keys .entry))) (now (dice .entry)) mask (length (now (out .entry))) ⌝ }
+    ensures output { λ _. ⌜ now (out .exit) ≡ afterwards (partTwoRefusal (given modulus ballots compared (now (ids .entry)) (now (votes .entry)) (now (numbers .entry)) (now (permutations .entry)) (now (keys .entry))) (now (dice .entry)) mask (length (now (out .entry)))) (now (out .entry)) (secondPart (given modulus ballots compared (now (ids .entry)) (now (votes .entry)) (now (numbers .entry)) (now (permutations .entry)) (now (keys .entry))) (now (dice .entry)) mask) ⌝ }
+{
+    written_code(comparison::part_two(
+        modulus,
+        ballots,
+        compared,
+        ids,
+        votes,
+        numbers,
+        permutations,
+        keys,
+        dice,
+        mask,
+        out,
+    ))
+}
+
+// Part two, mask drawn from the dice and part one as lent.
+#[no_mangle]
+pub extern "C" fn paddockyear_part_two_drawn(
+    modulus: u32,
+    ballots: u32,
+    compared: u32,
+    ids: &[u32],
+    votes: &[u32],
+    numbers: &[u32],
+    permutations: &[u16],
+    keys: &[u8],
+    dice: &[u8],
+    one: &[u8],
+    out: &mut [u8],
+) -> u32
+    ensures answer { λ r. ⌜ r ≡ partTwoDrawnRefusal (given modulus ballots compared (now (ids .entry)) (now (votes .entry)) (now (numbers .entry)) (now (permutations .entry)) (now (keys .entry))) (now (dice .entry)) (length (now (one .entry))) (length (now (out .entry))) ⌝ }
+    ensures output { λ _. ⌜ now (out .exit) ≡ afterwards (partTwoDrawnRefusal (given modulus ballots compared (now (ids .entry)) (now (votes .entry)) (now (numbers .entry)) (now (permutations .entry)) (now (keys .entry))) (now (dice .entry)) (length (now (one .entry))) (length (now (out .entry)))) (now (out .entry)) (secondPart (given modulus ballots compared (now (ids .entry)) (now (votes .entry)) (now (numbers .entry)) (now (permutations .entry)) (now (keys .entry))) (now (dice .entry)) (maskFor (given modulus ballots compared (now (ids .entry)) (now (votes .entry)) (now (numbers .entry)) (now (permutations .entry)) (now (keys .entry))) (now (dice .entry)) (now (one .entry)))) ⌝ }
+{
+    written_code(comparison::part_two_drawn(
+        modulus,
+        ballots,
+        compared,
+        ids,
+        votes,
+        numbers,
+        permutations,
+        keys,
+        dice,
+        one,
+        out,
+    ))
+}
+
+// Part three, sides given.
+#[no_mangle]
+pub extern "C" fn paddockyear_part_three(
+    modulus: u32,
+    ballots: u32,
+    compared: u32,
+    ids: &[u32],
+    votes: &[u32],
+    numbers: &[u32],
+    permutations: &[u16],
+    keys: &[u8],
+    dice: &[u8],
+    mask: u32,
+    sides: &[u8],
+    out: &mut [u8],
+) -> u32
+    ensures answer { λ r. ⌜ r ≡ partThreeRefusal (given modulus ballots compared (now (ids .entry)) (now (votes .entry)) (now (numbers .entry)) (now (permutations .entry)) (now (keys .entry))) (now (dice .entry)) mask (now (sides .entry)) (length (now (out .entry))) ⌝ }
+    ensures output { λ _. ⌜ now (out .exit) ≡ afterwards (partThreeRefusal (given modulus ballots compared (now (ids .entry)) (now (votes .entry)) (now (numbers .entry)) (now (permutations .entry)) (now (keys .entry))) (now (dice .entry)) mask (now (sides .entry)) (length (now (out .entry)))) (now (out .entry)) (thirdPart (given modulus ballots compared (now (ids .entry)) (now (votes .entry)) (now (numbers .entry)) (now (permutations .entry)) (now (keys .entry))) (now (dice .entry)) mask (now (sides .entry))) ⌝ }
+{
+    written_code(disclosure::part_three(
+        modulus,
+        ballots,
+        compared,
+        ids,
+        votes,
+        numbers,
+        permutations,
+        keys,
+        dice,
+        mask,
+        sides,
+        out,
+    ))
+}
+
+// Part three, sides drawn from the dice and parts one and two as lent.
+#[no_mangle]
+pub extern "C" fn paddockyear_part_three_drawn(
+    modulus: u32,
+    ballots: u32,
+    compared: u32,
+    ids: &[u32],
+    votes: &[u32],
+    numbers: &[u32],
+    permutations: &[u16],
+    keys: &[u8],
+    dice: &[u8],
+    mask: u32,
+    one: &[u8],
+    two: &[u8],
+    out: &mut [u8],
+) -> u32
+    ensures answer { λ r. ⌜ r ≡ partThreeDrawnRefusal (given modulus ballots compared (now (ids .entry)) (now (votes .entry)) (now (numbers .entry)) (now (permutations .entry)) (now (keys .entry))) (now (dice .entry)) mask (length (now (one .entry))) (length (now (two .entry))) (length (now (out .entry))) ⌝ }
+    ensures output { λ _. ⌜ now (out .exit) ≡ afterwards (partThreeDrawnRefusal (given modulus ballots compared (now (ids .entry)) (now (votes .entry)) (now (numbers .entry)) (now (permutations .entry)) (now (keys .entry))) (now (dice .entry)) mask (length (now (one .entry))) (length (now (two .entry))) (length (now (out .entry)))) (now (out .entry)) (thirdPart (given modulus ballots compared (now (ids .entry)) (now (votes .entry)) (now (numbers .entry)) (now (permutations .entry)) (now (keys .entry))) (now (dice .entry)) mask (sidesFor (given modulus ballots compared (now (ids .entry)) (now (votes .entry)) (now (numbers .entry)) (now (permutations .entry)) (now (keys .entry))) (now (dice .entry)) (now (one .entry)) (now (two .entry)))) ⌝ }
+{
+    written_code(disclosure::part_three_drawn(
+        modulus,
+        ballots,
+        compared,
+        ids,
+        votes,
+        numbers,
+        permutations,
+        keys,
+        dice,
+        mask,
+        one,
+        two,
+        out,
+    ))
+}
+
+// The mask that part two draws; `mask` is as it was on a refusal.
+#[no_mangle]
+pub extern "C" fn paddockyear_draw_mask(
+    modulus: u32,
+    ballots: u32,
+    compared: u32,
+    dice: &[u8],
+    one: &[u8],
+    mask: &mut u32,
+) -> u32
+    ensures answer { λ r. ⌜ r ≡ drawRefusal (record { modulus = modulus; ballots = ballots; compared = compared }) (now (dice .entry)) (length (now (one .entry))) ⌝ }
+    ensures mask { λ _. ⌜ now (mask .exit) ≡ choose (drawRefusal (record { modulus = modulus; ballots = ballots; compared = compared }) (now (dice .entry)) (length (now (one .entry)))) (drawnMask compared (challenge (now (dice .entry)) (now (one .entry)))) (now (mask .entry)) ⌝ }
+{
+    match comparison::draw(modulus, ballots, compared, dice, one) {
+        Draw::Refused(k) => k,
+        Draw::Mask(drawn) => {
+            *mask = drawn;
+            0
+        }
+    }
+}
+
+// An election's answer: 0 for accepted, else the number.
+fn outcome_code(o: Outcome) -> u32
+    ensures { λ r. ⌜ r ≡ outcomeNumber o ⌝ }
+{
+    match o {
+        Outcome::Accepted => 0,
+        Outcome::Refused(k) => k,
+        Outcome::Rejected(k) => k,
+    }
+}
+
+// The three calls and the judge as one election: 0 for a record that is written and accepted, else the refusal's number. `mask_given` and
+// The three calls and the judge as one election: 0 for a record that is written and accepted, else the refusal's number. `mask_given` and
+// `sides_given` are 0 where mask or sides are to be drawn.
+#[no_mangle]
+pub extern "C" fn paddockyear_election(
+    mask_given: u32,
+    sides_given: u32,
+    modulus: u32,
+    ballots: u32,
+    compared: u32,
+    ids: &[u32],
+    votes: &[u32],
+    numbers: &[u32],
+    permutations: &[u16],
+    keys: &[u8],
+    first_dice: &[u8],
+    mask: u32,
+    second_dice: &[u8],
+    sides: &[u8],
+    one: &mut [u8],
+    two: &mut [u8],
+    three: &mut [u8],
+    joined: &mut [u8],
+) -> u32
+    ensures answer { λ r. ⌜ r ≡ (electionRefusal (given modulus ballots compared (now (ids .entry)) (now (votes .entry)) (now (numbers .entry)) (now (permutations .entry)) (now (keys .entry))) (choiceOf (differ «mask_given» 0) mask) (now («first_dice» .entry)) (choiceOf (differ «sides_given» 0) (now (sides .entry))) (now («second_dice» .entry)) (length (now (one .entry))) (length (now (two .entry))) (length (now (three .entry))) (length (now (joined .entry)))) ⌝ }
+    ensures one { λ _. ⌜ now (one .exit) ≡ afterwards (electionRefusal (given modulus ballots compared (now (ids .entry)) (now (votes .entry)) (now (numbers .entry)) (now (permutations .entry)) (now (keys .entry))) (choiceOf (differ «mask_given» 0) mask) (now («first_dice» .entry)) (choiceOf (differ «sides_given» 0) (now (sides .entry))) (now («second_dice» .entry)) (length (now (one .entry))) (length (now (two .entry))) (length (now (three .entry))) (length (now (joined .entry)))) (now (one .entry)) (firstPart (given modulus ballots compared (now (ids .entry)) (now (votes .entry)) (now (numbers .entry)) (now (permutations .entry)) (now (keys .entry)))) ⌝ }
+    ensures two { λ _. ⌜ now (two .exit) ≡ afterwards (electionRefusal (given modulus ballots compared (now (ids .entry)) (now (votes .entry)) (now (numbers .entry)) (now (permutations .entry)) (now (keys .entry))) (choiceOf (differ «mask_given» 0) mask) (now («first_dice» .entry)) (choiceOf (differ «sides_given» 0) (now (sides .entry))) (now («second_dice» .entry)) (length (now (one .entry))) (length (now (two .entry))) (length (now (three .entry))) (length (now (joined .entry)))) (now (two .entry)) (electionTwo (given modulus ballots compared (now (ids .entry)) (now (votes .entry)) (now (numbers .entry)) (now (permutations .entry)) (now (keys .entry))) (choiceOf (differ «mask_given» 0) mask) (now («first_dice» .entry))) ⌝ }
+    ensures three { λ _. ⌜ now (three .exit) ≡ afterwards (electionRefusal (given modulus ballots compared (now (ids .entry)) (now (votes .entry)) (now (numbers .entry)) (now (permutations .entry)) (now (keys .entry))) (choiceOf (differ «mask_given» 0) mask) (now («first_dice» .entry)) (choiceOf (differ «sides_given» 0) (now (sides .entry))) (now («second_dice» .entry)) (length (now (one .entry))) (length (now (two .entry))) (length (now (three .entry))) (length (now (joined .entry)))) (now (three .entry)) (electionThree (given modulus ballots compared (now (ids .entry)) (now (votes .entry)) (now (numbers .entry)) (now (permutations .entry)) (now (keys .entry))) (choiceOf (differ «mask_given» 0) mask) (now («first_dice» .entry)) (choiceOf (differ «sides_given» 0) (now (sides .entry))) (now («second_dice» .entry))) ⌝ }
+    ensures joined { λ _. ⌜ now (joined .exit) ≡ afterwards (electionRefusal (given modulus ballots compared (now (ids .entry)) (now (votes .entry)) (now (numbers .entry)) (now (permutations .entry)) (now (keys .entry))) (choiceOf (differ «mask_given» 0) mask) (now («first_dice» .entry)) (choiceOf (differ «sides_given» 0) (now (sides .entry))) (now («second_dice» .entry)) (length (now (one .entry))) (length (now (two .entry))) (length (now (three .entry))) (length (now (joined .entry)))) (now (joined .entry)) (electionRecord (given modulus ballots compared (now (ids .entry)) (now (votes .entry)) (now (numbers .entry)) (now (permutations .entry)) (now (keys .entry))) (choiceOf (differ «mask_given» 0) mask) (now («first_dice» .entry)) (choiceOf (differ «sides_given» 0) (now (sides .entry))) (now («second_dice» .entry))) ⌝ }
+{
+    outcome_code(election::hold(
+        mask_given != 0,
+        sides_given != 0,
+        modulus,
+        ballots,
+        compared,
+        ids,
+        votes,
+        numbers,
+        permutations,
+        keys,
+        first_dice,
+        mask,
+        second_dice,
+        sides,
+        one,
+        two,
+        three,
+        joined,
+    ))
 }
 
 // ---- the verifier

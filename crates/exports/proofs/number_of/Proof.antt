@@ -1,5 +1,5 @@
 -- `exports::number_of` meets its contract, case by case.
-use mathlib.Core.Path.{_≡_, sym, ap}
+use mathlib.Core.Path.{sym, ap}
 use borrow.Author.Needs.{needs}
 use Rattle.laws.specs.Faults.{numberOf}
 use Rattle.exports.proofs.number_of.Statement.{statement}

@@ -1,5 +1,5 @@
 -- `exports::paddockyear_check_receipt` meets its contract: the code of the answer.
-use mathlib.Core.Path.{_≡_, ap, _∙_}
+use mathlib.Core.Path.{ap, _∙_}
 use borrow.Author.Needs.{needs}
 use Rattle.exports.specs.Codes.{receiptCode}
 use Rattle.exports.proofs.paddockyear_check_receipt.Statement.{statement}

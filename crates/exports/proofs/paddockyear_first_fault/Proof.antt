@@ -1,6 +1,5 @@
 -- `exports::paddockyear_first_fault` meets its contract, case by case.
-use mathlib.Core.Path.{_≡_, sym, ap, _∙_}
-use Prim.Native.Nat.{ℕ}
+use mathlib.Core.Path.{sym, ap, _∙_}
 use borrow.Author.Needs.{needs}
 use Rattle.laws.specs.declared.Found.{Found}
 use Rattle.laws.specs.Tests.{differ}

@@ -1,5 +1,5 @@
 -- `exports::paddockyear_judge_plainly` meets its contract: the number of the first fault.
-use mathlib.Core.Path.{_≡_, ap, _∙_}
+use mathlib.Core.Path.{ap, _∙_}
 use borrow.Author.Needs.{needs}
 use Rattle.laws.specs.Faults.{numberOf}
 use Rattle.exports.proofs.paddockyear_judge_plainly.Statement.{statement}

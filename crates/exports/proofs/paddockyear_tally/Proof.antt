@@ -1,5 +1,5 @@
 -- `exports::paddockyear_tally` meets its contract, case by case.
-use mathlib.Core.Path.{_≡_, sym, _∙_}
+use mathlib.Core.Path.{sym, _∙_}
 use borrow.Author.Needs.{needs}
 use Rattle.exports.specs.Codes.{tally-refused, tally-pairs}
 use Rattle.exports.proofs.paddockyear_tally.Statement.{statement}

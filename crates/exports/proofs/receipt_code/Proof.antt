@@ -1,5 +1,5 @@
 -- `exports::receipt_code` meets its contract, case by case.
-use mathlib.Core.Path.{_≡_, sym, ap}
+use mathlib.Core.Path.{sym, ap}
 use borrow.Author.Needs.{needs}
 use Rattle.exports.specs.Codes.{receiptCode}
 use Rattle.exports.proofs.receipt_code.Statement.{statement}

@@ -1,7 +1,7 @@
 -- `exports::written_code` meets its contract, case by case.
-use mathlib.Core.Path.{_≡_, sym, ap}
+use mathlib.Core.Path.{sym, ap}
 use borrow.Author.Needs.{needs}
-use Rattle.exports.specs.Codes.{writtenCode}
+use Rattle.protocol.specs.Answers.{writtenNumber}
 use Rattle.exports.proofs.written_code.Statement.{statement}
 use Rattle.exports.proofs.written_code.Tie as tie
 
@@ -12,12 +12,10 @@ enum-known-w : tie.Need-enum-known-w
 enum-known-w c = search needs
 
 returns : tie.Need-returns
-unfolding writtenCode
-returns c = sym (ap writtenCode (c .enum-told .given .1))
+returns c = sym (ap writtenNumber (c .enum-told .given .1))
 
 returns-2 : tie.Need-returns-2
-unfolding writtenCode
-returns-2 c = sym (ap writtenCode (c .before .w .given .1))
+returns-2 c = sym (ap writtenNumber (c .before .w .given .1))
 
 pub written-code-spec : {M : Type 1} → statement M
 written-code-spec = tie.close (tie.spec enum-told enum-known-w returns returns-2)
