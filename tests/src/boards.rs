@@ -2,10 +2,12 @@
 
 pub mod calls;
 pub mod damage;
+pub mod samples;
 
 use crate::random::Random;
+use crate::reference::election::{election, DiceTable};
 use crate::reference::terms::{Parameters, MAX_BALLOTS, MAX_M};
-use crate::reference::writer::{self, Inputs, MaskSource, SidesSource};
+use crate::reference::writer::{mask_of, Inputs};
 
 /// Moduli at the limits, around powers of two, and in between.
 pub const MODULI: [u32; 9] =
@@ -30,6 +32,28 @@ pub fn inputs(random: &mut Random, parameters: Parameters) -> Inputs {
         numbers: (0..5 * n + 18 * mn).map(|_| random.number(modulus)).collect(),
         permutations: (0..6 * m).flat_map(|_| random.permutation(n)).collect(),
         keys: random.bytes(192 * n + 384 * mn),
+    }
+}
+
+/// Slices of the lengths that these parameters ask for, also outside their limits: every number is
+/// 0 and nothing moves, so that no rule but the limits is broken.
+pub fn still_inputs(random: &mut Random, parameters: Parameters) -> Inputs {
+    let (n, mn) = (parameters.ballots(), parameters.m as usize * parameters.ballots());
+    Inputs {
+        parameters,
+        ids: (0..parameters.n).collect(),
+        votes: vec![0; n],
+        numbers: vec![0; 5 * n + 18 * mn],
+        permutations: (0..6 * parameters.m).flat_map(|_| 0..n as u16).collect(),
+        keys: random.bytes(192 * n + 384 * mn),
+    }
+}
+
+/// Any modulus, half of the time one of those at the limits.
+pub fn modulus(random: &mut Random) -> u32 {
+    match random.below(2) {
+        0 => random.pick(&MODULI),
+        _ => 2 + random.number(u32::MAX - 1),
     }
 }
 
@@ -59,6 +83,15 @@ pub struct Draws {
     pub sides: bool,
 }
 
+impl Draws {
+    /// What the dice table gives; mask and sides count where they are not drawn.
+    pub fn table<'a>(self, dice: [&'a [u8]; 2], mask: u32, sides: &'a [u8]) -> DiceTable<'a> {
+        let [first_dice, second_dice] = dice;
+        let (mask_given, sides_given) = (u32::from(!self.mask), u32::from(!self.sides));
+        DiceTable { mask_given, first_dice, mask, sides_given, second_dice, sides }
+    }
+}
+
 pub const NEITHER: Draws = Draws { mask: false, sides: false };
 pub const BOTH: Draws = Draws { mask: true, sides: true };
 pub const ALL_DRAWS: [Draws; 4] =
@@ -78,19 +111,12 @@ pub fn board_with_dice(
 ) -> Board {
     let [mut one, mut two, mut three] =
         inputs.parameters.part_lengths().map(|length| random.bytes(length));
-    writer::part_one(inputs, &mut one).unwrap();
-    let source = match draws.mask {
-        true => MaskSource::Drawn { part_one: &one },
-        false => MaskSource::Given(random.mask(inputs.parameters.m)),
-    };
-    writer::part_two(inputs, &dice[0], source, &mut two).unwrap();
-    let mask = u32::from_be_bytes(two[31..35].try_into().unwrap());
-    let given = random.sides(inputs.parameters.ballots());
-    let source = match draws.sides {
-        true => SidesSource::Drawn { part_one: &one, part_two: &two },
-        false => SidesSource::Given(&given),
-    };
-    writer::part_three(inputs, &dice[1], mask, source, &mut three).unwrap();
+    let mask = if draws.mask { 0 } else { random.mask(inputs.parameters.m) };
+    let sides = random.sides(inputs.parameters.ballots());
+    let table = draws.table([&dice[0], &dice[1]], mask, &sides);
+    let mut joined = vec![0; inputs.parameters.record_length()];
+    election(inputs, &table, [&mut one, &mut two, &mut three, &mut joined]).unwrap();
+    let mask = mask_of(&two);
     Board { inputs: inputs.clone(), mask, parts: [one, two, three] }
 }
 

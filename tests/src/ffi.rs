@@ -2,7 +2,9 @@
 //! a pointer and then a length. One module for each group of entries.
 
 pub mod columns;
+pub mod election;
 pub mod hash;
 pub mod judge;
+pub mod parts;
 pub mod results;
 pub mod tablet;

@@ -22,7 +22,12 @@ impl<T: Copy + Debug + PartialEq + From<u8>> Lent<T> {
 
     /// The slice holds this, and nothing was written around it.
     pub fn check(&self, due: &[T]) {
-        assert_eq!(self.cells, Lent::new(due).cells);
+        let due = Lent::new(due).cells;
+        assert_eq!(self.cells.len(), due.len());
+        if let Some(cell) = (0..due.len()).find(|&cell| self.cells[cell] != due[cell]) {
+            let place = cell as i64 - MARGIN as i64;
+            panic!("place {place}: {:?}, due is {:?}", self.cells[cell], due[cell]);
+        }
     }
 }
 

@@ -7,3 +7,11 @@ pub mod ffi;
 pub mod lent;
 pub mod random;
 pub mod reference;
+pub mod subjects;
+#[cfg(feature = "linked")]
+pub mod wrapper;
+
+/// In lower-case hexadecimal digits.
+pub fn hex(bytes: &[u8]) -> String {
+    bytes.iter().map(|byte| format!("{byte:02x}")).collect()
+}

@@ -2,6 +2,7 @@
 
 pub mod columns;
 pub mod drawing;
+pub mod election;
 pub mod judge;
 pub mod page;
 pub mod receipt;

@@ -298,6 +298,11 @@ pub fn part_two(inputs: &Inputs, dice: &[u8], mask: MaskSource, out: &mut [u8]) 
     Ok(())
 }
 
+/// The mask that part two has.
+pub fn mask_of(part_two: &[u8]) -> u32 {
+    u32::from_be_bytes(part_two[31..35].try_into().unwrap())
+}
+
 /// Part three, or 3, 18, 5, 6, 7, 10, 11, 19.
 pub fn part_three(
     inputs: &Inputs,

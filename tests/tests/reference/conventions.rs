@@ -1,8 +1,8 @@
 //! Conventions that writer and judge share, pinned by values worked out outside this crate, from
 //! document 01's words, with another program's SHA-3.
 
-use crate::hex;
 use paddockyear_tests::boards::{board_with_dice, BOTH};
+use paddockyear_tests::hex;
 use paddockyear_tests::random::Random;
 use paddockyear_tests::reference::drawing::{drawn_mask, drawn_sides, seed};
 use paddockyear_tests::reference::judge::{judge, Judging};

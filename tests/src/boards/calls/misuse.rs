@@ -14,6 +14,8 @@ pub struct Misuse<C> {
     pub number: u8,
     pub name: &'static str,
     change: fn(&mut C),
+    /// Which of several calls in one refuses it.
+    turn: u8,
 }
 
 impl<C> Clone for Misuse<C> {
@@ -26,19 +28,24 @@ impl<C> Copy for Misuse<C> {}
 
 impl<C> Misuse<C> {
     pub fn new(number: u8, name: &'static str, change: fn(&mut C)) -> Self {
-        Misuse { number, name, change }
+        Misuse { number, name, change, turn: 0 }
+    }
+
+    /// The same misuse, met by this one of several calls.
+    pub fn in_call(self, turn: u8) -> Self {
+        Misuse { turn, ..self }
     }
 
     pub fn apply(&self, call: &mut C) {
         (self.change)(call)
     }
 
-    /// Its turn in the writers' order: 3, then 18, then rising.
-    fn order(&self) -> u8 {
+    /// Its place in the writers' order: call by call 3, then 18, then rising.
+    fn order(&self) -> (u8, u8) {
         match self.number {
-            refusal::LIMITS => 0,
-            refusal::LENGTH => 1,
-            number => number,
+            refusal::LIMITS => (self.turn, 0),
+            refusal::LENGTH => (self.turn, 1),
+            number => (self.turn, number),
         }
     }
 }
@@ -52,7 +59,7 @@ pub fn check_each<C: Misusable>(call: &C, run: impl Fn(C) -> u8) {
     }
 }
 
-/// Runs the call with every two misuses of different numbers; the earlier number decides.
+/// Runs the call with every two misuses that are not met together; the earlier one decides.
 pub fn check_pairs<C: Misusable>(call: &C, run: impl Fn(C) -> u8) {
     let misuses = call.misuses();
     for first in &misuses {
@@ -79,6 +86,11 @@ pub fn drop_last<T>(slice: &mut Vec<T>) {
 
 pub fn last<T>(slice: &mut [T]) -> &mut T {
     slice.last_mut().unwrap()
+}
+
+/// The mask without its lowest one.
+pub fn fewer(mask: u32) -> u32 {
+    mask & mask.saturating_sub(1)
 }
 
 /// Another value within the limit.

@@ -3,7 +3,6 @@
 mod boundaries;
 mod damaged;
 mod honest;
-mod samples;
 
 use crate::subject::judge;
 use paddockyear_tests::reference::judge::Judging;

@@ -1,0 +1,66 @@
+//! The files of `samples/`: honest boards, and for several rules one that drawn judging refuses.
+//! Seeds are fixed, so they are the same at every run.
+
+use super::damage::damaged;
+use super::{board, honest, inputs, Board, BOTH};
+use crate::random::Random;
+use crate::reference::judge::Judging;
+use crate::reference::page::LONGEST;
+use crate::reference::terms::Parameters;
+
+/// The rules of which a refused board is written.
+const RULES: [u8; 9] = [1, 5, 8, 9, 12, 13, 14, 16, 17];
+
+/// Names and bytes.
+pub fn files() -> Vec<(String, Vec<u8>)> {
+    let random = &mut Random::new(2026);
+    let [eight, one] = [(100, 8, 2), (2, 1, 1)].map(|shape| of_shape(random, shape));
+    let mut three = inputs(random, Parameters { modulus: 9, n: 3, m: 1 });
+    three.votes = vec![5, 2, 5];
+    let three = board(random, &three, BOTH);
+    let refused = RULES.map(|rule| (format!("refused-{rule}.board"), refused_by(random, rule)));
+    let [twenty, lists] = [(10, 20, 2), (u32::MAX, 7, 12)].map(|shape| of_shape(random, shape));
+    let accepted = [
+        ("eight-ballots.board", eight),
+        ("one-ballot.board", one),
+        ("votes-2-5-5.board", three),
+        ("twenty-ballots.board", twenty),
+        ("twenty-four-lists.board", lists),
+    ];
+    let accepted = accepted.map(|(name, board)| (name.to_string(), written(&board)));
+    accepted.into_iter().chain(refused).collect()
+}
+
+/// An honest board of these M, n and m.
+fn of_shape(random: &mut Random, (modulus, n, m): (u32, u32, u32)) -> Board {
+    honest(random, Parameters { modulus, n, m }, BOTH)
+}
+
+/// A board that the program refuses by this rule.
+fn refused_by(random: &mut Random, rule: u8) -> Vec<u8> {
+    loop {
+        let (record, fault) = damaged(random, 4, 2, Judging::Drawn);
+        if fault.number == rule && record.len() <= LONGEST {
+            return record;
+        }
+    }
+}
+
+/// The record of this board as the product's election writes it, from the same inputs and dice.
+#[cfg(feature = "linked")]
+fn written(board: &Board) -> Vec<u8> {
+    let mut buffers = board.parts.each_ref().map(|part| vec![0; part.len()]);
+    let mut record = vec![0; board.inputs.parameters.record_length()];
+    let table = BOTH.table([&board.parts[1][1..31], &board.parts[2][1..31]], 0, &[]);
+    let [one, two, three] = &mut buffers;
+    let answer =
+        crate::ffi::election::election(&board.inputs, &table, [one, two, three, &mut record]);
+    assert_eq!(answer, 0);
+    record
+}
+
+/// The record of this board.
+#[cfg(not(feature = "linked"))]
+fn written(board: &Board) -> Vec<u8> {
+    board.record()
+}

@@ -1,0 +1,51 @@
+//! The files of `samples/`: what the product's election writes, or without the feature `linked` the
+//! reference, and what their names promise.
+
+use std::collections::{BTreeMap, BTreeSet};
+use std::path::Path;
+use std::{fs, io};
+
+use paddockyear_tests::boards::samples::files;
+use paddockyear_tests::reference::judge::Judging;
+use paddockyear_tests::reference::page::{page, LONGEST};
+
+#[cfg(feature = "linked")]
+use paddockyear_tests::subjects::product as subject;
+#[cfg(not(feature = "linked"))]
+use paddockyear_tests::subjects::reference as subject;
+
+/// The boards in the folder, by name.
+fn committed() -> io::Result<BTreeMap<String, Vec<u8>>> {
+    let folder = Path::new(env!("CARGO_MANIFEST_DIR")).join("../samples");
+    let paths = fs::read_dir(folder)?.map(|entry| Ok(entry?.path()));
+    let paths: Vec<_> = paths.collect::<io::Result<_>>()?;
+    let boards = paths.iter().filter(|path| path.extension().is_some_and(|kind| kind == "board"));
+    boards
+        .map(|path| Ok((path.file_name().unwrap().to_string_lossy().into(), fs::read(path)?)))
+        .collect()
+}
+
+#[test]
+fn they_are_what_is_written() {
+    let (committed, written) = (committed().unwrap(), BTreeMap::from_iter(files()));
+    assert!(committed.keys().eq(written.keys()), "{:?}", committed.keys());
+    for (name, bytes) in written {
+        assert!(committed[&name] == bytes, "{name}");
+    }
+}
+
+/// `refused-N` is refused by rule N, all others are accepted, and the program reads each.
+#[test]
+fn their_names_are_true() {
+    let mut refused = BTreeSet::new();
+    for (name, bytes) in committed().unwrap() {
+        let number =
+            subject::judge(&bytes, Judging::Drawn).map_or_else(|fault| fault.number, |_| 0);
+        let due = name.strip_prefix("refused-").map_or("0", |rest| &rest[..rest.len() - 6]);
+        assert_eq!(number.to_string(), due, "{name}");
+        assert!(bytes.len() <= LONGEST, "{name}");
+        refused.insert(number);
+    }
+    assert_eq!(refused, BTreeSet::from([0, 1, 5, 8, 9, 12, 13, 14, 16, 17]));
+    assert_eq!(page(&committed().unwrap()["votes-2-5-5.board"]), "ACCEPTED\n2 1\n5 2\n");
+}

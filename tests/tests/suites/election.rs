@@ -1,0 +1,244 @@
+//! What the election answers and writes.
+
+use std::collections::BTreeSet;
+
+use crate::subject::{announced_votes, election, judge, part_one, part_three, part_two};
+use paddockyear_tests::boards::calls::election::ElectionCall;
+use paddockyear_tests::boards::calls::misuse::{
+    check_each, check_pairs, misuse_at_random, Misusable,
+};
+use paddockyear_tests::boards::*;
+use paddockyear_tests::random::Random;
+use paddockyear_tests::reference::judge::Judging;
+use paddockyear_tests::reference::terms::{sorted, Parameters};
+use paddockyear_tests::reference::writer::{mask_of, MaskSource, SidesSource};
+
+const SHAPE: Parameters = Parameters { modulus: 100, n: 3, m: 2 };
+
+/// Holds the election; it writes its four buffers alone, and where it refuses nothing.
+fn answer(mut call: ElectionCall) -> u8 {
+    let before = call.clone();
+    let answer = call.hold(election);
+    let written = if answer.is_ok() { &call.buffers } else { &before.buffers };
+    let buffers = written.clone();
+    assert!(call == ElectionCall { buffers, ..before });
+    answer.map_or_else(|number| number, |()| 0)
+}
+
+/// What the three calls write one after the other.
+fn three_calls(call: &ElectionCall, draws: Draws) -> [Vec<u8>; 3] {
+    let [mut one, mut two, mut three] =
+        call.inputs.parameters.part_lengths().map(|length| vec![0; length]);
+    part_one(&call.inputs, &mut one).unwrap();
+    let drawn = MaskSource::Drawn { part_one: &one };
+    let mask = if draws.mask { drawn } else { MaskSource::Given(call.mask) };
+    part_two(&call.inputs, &call.first_dice, mask, &mut two).unwrap();
+    let drawn = SidesSource::Drawn { part_one: &one, part_two: &two };
+    let sides = if draws.sides { drawn } else { SidesSource::Given(&call.sides) };
+    part_three(&call.inputs, &call.second_dice, mask_of(&two), sides, &mut three).unwrap();
+    [one, two, three]
+}
+
+/// The buffers hold the parts and their join, which is accepted and announces the votes.
+fn check(mut call: ElectionCall, draws: Draws) {
+    assert_eq!(call.hold(election), Ok(()));
+    let parts = three_calls(&call, draws);
+    assert!(call.buffers[..3] == parts);
+    assert!(call.record() == parts.concat());
+    assert!(draws.mask || mask_of(&parts[1]) == call.mask);
+    let votes = sorted(&call.inputs.votes);
+    assert_eq!(judge(call.record(), Judging::Plain), Ok(votes.clone()));
+    if draws == BOTH {
+        assert_eq!(judge(call.record(), Judging::Drawn), Ok(votes.clone()));
+    }
+    let mut announced = vec![u32::MAX; votes.len()];
+    assert_eq!(announced_votes(call.record(), &mut announced), Ok(()));
+    assert_eq!(announced, votes);
+}
+
+#[test]
+fn four_ways() {
+    let random = &mut Random::new(230);
+    for draws in ALL_DRAWS {
+        for _ in 0..30 {
+            let Parameters { n, m, .. } = parameters(random, 16, 12);
+            let modulus = modulus(random);
+            check(ElectionCall::honest(random, Parameters { modulus, n, m }, draws), draws);
+        }
+    }
+}
+
+#[test]
+fn of_many_ballots() {
+    let random = &mut Random::new(231);
+    for (n, m, draws) in [(257, 1, NEITHER), (1000, 1, BOTH), (1024, 1, BOTH), (1024, 12, BOTH)] {
+        let parameters = Parameters { modulus: u32::MAX, n, m };
+        check(ElectionCall::honest(random, parameters, draws), draws);
+    }
+}
+
+/// Given ones are taken though drawn judging refuses them.
+#[test]
+fn given_mask_and_sides() {
+    let random = &mut Random::new(232);
+    let parameters = Parameters { modulus: 100, n: 40, m: 8 };
+    for (draws, number) in [
+        (Draws { mask: false, sides: true }, 8),
+        (Draws { mask: true, sides: false }, 12),
+        (NEITHER, 8),
+    ] {
+        let mut call = ElectionCall::honest(random, parameters, draws);
+        call.hold(election).unwrap();
+        let fault = judge(call.record(), Judging::Drawn).unwrap_err();
+        assert_eq!(fault.number, number);
+        assert!(judge(call.record(), Judging::Plain).is_ok());
+        let layout = Layout::new(&parameters);
+        let sides = (0..40).map(|ballot| call.record()[layout.ballot_half(ballot) + 3]);
+        assert_eq!(sides.eq(call.sides.iter().copied()), !draws.sides);
+    }
+}
+
+/// Any switch but 0 is the same.
+#[test]
+fn switches() {
+    let random = &mut Random::new(233);
+    for draws in ALL_DRAWS {
+        let mut call = ElectionCall::honest(random, SHAPE, draws);
+        let again = |switch: u32| match switch {
+            0 => vec![0],
+            _ => vec![1, 2, 256, 1 << 16, 1 << 31, u32::MAX],
+        };
+        let other = call.clone();
+        call.hold(election).unwrap();
+        for mask_given in again(call.mask_given) {
+            for sides_given in again(call.sides_given) {
+                let mut other = ElectionCall { mask_given, sides_given, ..other.clone() };
+                assert_eq!(other.hold(election), Ok(()));
+                assert!(other.buffers == call.buffers);
+            }
+        }
+    }
+}
+
+/// What is lent in the place of a drawn mask or drawn sides is not looked at.
+#[test]
+fn what_is_drawn_is_not_looked_at() {
+    let random = &mut Random::new(234);
+    for draws in ALL_DRAWS {
+        let mut call = ElectionCall::honest(random, SHAPE, draws);
+        let other = call.clone();
+        call.hold(election).unwrap();
+        for mask in [0, 1, 0b0011, u32::MAX] {
+            for sides in [vec![], vec![2; 3], vec![255; 4], vec![0; 3], vec![1; 2]] {
+                let mut other = other.clone();
+                other.mask = if draws.mask { mask } else { other.mask };
+                other.sides = if draws.sides { sides } else { other.sides };
+                assert_eq!(other.hold(election), Ok(()));
+                assert!(other.buffers == call.buffers);
+            }
+        }
+    }
+}
+
+#[test]
+fn every_misuse() {
+    let random = &mut Random::new(235);
+    for draws in ALL_DRAWS {
+        for (n, m) in [(1, 1), (3, 2), (2, 12), (257, 1)] {
+            let call = ElectionCall::honest(random, Parameters { modulus: 100, n, m }, draws);
+            check_each(&call, answer);
+        }
+    }
+}
+
+/// The first call's refusals come before the second's, these before the third's, and then the
+/// join's.
+#[test]
+fn every_pair_of_misuses() {
+    let random = &mut Random::new(236);
+    for draws in ALL_DRAWS {
+        let call = ElectionCall::honest(random, Parameters { modulus: 9, n: 2, m: 1 }, draws);
+        check_pairs(&call, answer);
+    }
+}
+
+/// The order in rows: what is broken, and what is answered.
+#[test]
+fn order_of_the_calls() {
+    type Break = fn(&mut ElectionCall);
+    let limits: Break = |call| call.inputs.parameters.m = 13;
+    let key: Break = |call| call.inputs.keys.truncate(1);
+    let place: Break = |call| call.inputs.permutations[0] = u16::MAX;
+    let first_dice: Break = |call| call.first_dice.truncate(29);
+    let first_die: Break = |call| call.first_dice[29] = b'7';
+    let mask: Break = |call| call.mask = 0;
+    let second_dice: Break = |call| call.second_dice.truncate(29);
+    let second_die: Break = |call| call.second_dice[0] = b'0';
+    let side: Break = |call| call.sides[0] = 2;
+    let join: Break = |call| call.buffers[3].clear();
+    let random = &mut Random::new(237);
+    for (breaks, number) in [
+        (&[limits, key, first_dice, join][..], 3),
+        (&[key, place, first_die], 18),
+        (&[place, first_dice, second_dice, join], 19),
+        (&[first_dice, first_die, mask], 18),
+        (&[first_die, mask, second_dice, join], 6),
+        (&[mask, second_dice, second_die, join], 7),
+        (&[second_dice, side], 18),
+        (&[second_die, side, join], 6),
+        (&[side, join], 11),
+        (&[join], 18),
+        (&[], 0),
+    ] {
+        let mut call = ElectionCall::honest(random, SHAPE, NEITHER);
+        breaks.iter().rev().for_each(|change| change(&mut call));
+        assert_eq!(answer(call), number);
+    }
+}
+
+/// The limits' last accepted and first refused values, every slice as long as they ask for.
+#[test]
+fn limits() {
+    let random = &mut Random::new(238);
+    for draws in ALL_DRAWS {
+        for (modulus, n, m, number) in [
+            (2, 1, 1, 0),
+            (u32::MAX, 1, 12, 0),
+            (2, 1024, 1, 0),
+            (1, 1, 1, 3),
+            (2, 0, 1, 3),
+            (2, 1025, 1, 3),
+            (2, 1, 0, 3),
+            (2, 1, 13, 3),
+        ] {
+            let inputs = still_inputs(random, Parameters { modulus, n, m });
+            let call = ElectionCall::of(random, inputs, draws);
+            assert_eq!(answer(call), number, "{draws:?}: {modulus} {n} {m}");
+        }
+    }
+}
+
+/// Which refusals each way meets.
+#[test]
+fn refusals_of_each_way() {
+    let random = &mut Random::new(239);
+    let due: [&[u8]; 4] = [
+        &[3, 5, 6, 7, 10, 11, 18, 19],
+        &[3, 5, 6, 10, 11, 18, 19],
+        &[3, 5, 6, 7, 10, 18, 19],
+        &[3, 5, 6, 10, 18, 19],
+    ];
+    for (draws, due) in ALL_DRAWS.into_iter().zip(due) {
+        let call = ElectionCall::honest(random, SHAPE, draws);
+        let met: BTreeSet<u8> = call.misuses().iter().map(|misuse| misuse.number).collect();
+        assert!(met.iter().eq(due), "{draws:?}");
+        let mut answers = BTreeSet::new();
+        for _ in 0..300 {
+            let parameters = parameters(random, 5, 3);
+            let mut call = ElectionCall::honest(random, parameters, draws);
+            misuse_at_random(random, &mut call);
+            answers.insert(answer(call));
+        }
+        assert!(answers.remove(&0) && answers.iter().eq(due), "{draws:?}: {answers:?}");
+    }
+}

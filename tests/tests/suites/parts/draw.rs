@@ -1,0 +1,111 @@
+//! The draw of the mask.
+
+use std::collections::BTreeSet;
+
+use super::run;
+use crate::subject::mask_entry;
+use paddockyear_tests::boards::calls::draw::DrawCall;
+use paddockyear_tests::boards::calls::misuse::{check_each, check_pairs, misuse_at_random};
+use paddockyear_tests::boards::calls::parts::PartCall;
+use paddockyear_tests::boards::{modulus, parameters, BOTH};
+use paddockyear_tests::random::Random;
+use paddockyear_tests::reference::terms::{mask_stands, Parameters};
+use paddockyear_tests::reference::writer::mask_of;
+
+fn draw(call: &DrawCall) -> Result<u32, u8> {
+    mask_entry(&call.parameters, &call.dice, &call.part_one)
+}
+
+fn answer(call: DrawCall) -> u8 {
+    draw(&call).map_or_else(|number| number, |_| 0)
+}
+
+/// It is the mask that part two draws from the same dice and the same part one.
+#[test]
+fn part_two_draws_the_same() {
+    let random = &mut Random::new(220);
+    for m in 1..=12 {
+        for _ in 0..12 {
+            let (modulus, n) = (modulus(random), 1 + random.number(9));
+            let mut two = PartCall::honest(random, Parameters { modulus, n, m }, (2, BOTH));
+            run(&mut two).unwrap();
+            let mask = mask_entry(&two.inputs.parameters, &two.dice, &two.part_one).unwrap();
+            assert_eq!(mask, mask_of(&two.out));
+            assert!(mask_stands(m, mask));
+        }
+    }
+}
+
+/// Another byte of part one, or another die, makes another mask; another modulus does not.
+#[test]
+fn what_counts() {
+    let random = &mut Random::new(221);
+    let parameters = Parameters { modulus: 100, n: 3, m: 12 };
+    let call = DrawCall::honest(random, parameters);
+    let mask = draw(&call);
+    for place in [0, 1, 1000, call.part_one.len() - 1] {
+        let mut other = call.clone();
+        other.part_one[place] ^= 1;
+        assert_ne!(draw(&other), mask);
+    }
+    for die in 0..30 {
+        let mut other = call.clone();
+        other.dice[die] = if other.dice[die] == b'1' { b'6' } else { b'1' };
+        assert_ne!(draw(&other), mask);
+    }
+    let other = DrawCall { parameters: Parameters { modulus: 2, ..parameters }, ..call };
+    assert_eq!(draw(&other), mask);
+}
+
+#[test]
+fn refusals() {
+    let random = &mut Random::new(222);
+    for (n, m) in [(1, 1), (3, 2), (4, 12), (1024, 1), (1024, 12)] {
+        check_each(&DrawCall::honest(random, Parameters { modulus: 100, n, m }), answer);
+    }
+    for (n, m) in [(1, 1), (3, 2)] {
+        check_pairs(&DrawCall::honest(random, Parameters { modulus: 100, n, m }), answer);
+    }
+    let mut answers = BTreeSet::new();
+    for _ in 0..500 {
+        let parameters = parameters(random, 6, 12);
+        let mut call = DrawCall::honest(random, parameters);
+        misuse_at_random(random, &mut call);
+        answers.insert(answer(call));
+    }
+    assert_eq!(answers, BTreeSet::from([0, 3, 6, 18]));
+}
+
+/// The limits' last accepted and first refused values, part one being as long as they ask for.
+#[test]
+fn limits() {
+    let random = &mut Random::new(223);
+    for (modulus, n, m, number) in [
+        (2, 1, 1, 0),
+        (u32::MAX, 1024, 1, 0),
+        (2, 1024, 12, 0),
+        (1, 1, 1, 3),
+        (0, 1, 1, 3),
+        (2, 0, 1, 3),
+        (2, 1025, 1, 3),
+        (2, 1, 0, 3),
+        (2, 1, 13, 3),
+    ] {
+        let call = DrawCall::honest(random, Parameters { modulus, n, m });
+        assert_eq!(answer(call), number, "{modulus} {n} {m}");
+    }
+}
+
+#[test]
+fn dice() {
+    let random = &mut Random::new(224);
+    let call = DrawCall::honest(random, Parameters { modulus: 9, n: 2, m: 1 });
+    for die in 0..30 {
+        for character in 0..=255 {
+            let mut call = call.clone();
+            call.dice[die] = character;
+            let fair = (b'1'..=b'6').contains(&character);
+            assert_eq!(answer(call), if fair { 0 } else { 6 }, "die {die}: {character}");
+        }
+    }
+}

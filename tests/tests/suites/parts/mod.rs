@@ -1,0 +1,36 @@
+//! What the servers' three parts and the draw of the mask answer and write.
+
+mod boundaries;
+mod draw;
+mod records;
+mod refusals;
+
+use crate::subject::{part_one, part_three, part_two};
+use paddockyear_tests::boards::calls::parts::PartCall;
+use paddockyear_tests::reference::writer::{MaskSource, SidesSource};
+
+fn run(call: &mut PartCall) -> Result<(), u8> {
+    let PartCall { part, draws, inputs, dice, mask, sides, part_one: one, part_two: two, out } =
+        call;
+    match part {
+        1 => part_one(inputs, out),
+        2 => {
+            let drawn = MaskSource::Drawn { part_one: one };
+            part_two(inputs, dice, if draws.mask { drawn } else { MaskSource::Given(*mask) }, out)
+        }
+        _ => {
+            let drawn = SidesSource::Drawn { part_one: one, part_two: two };
+            let sides = if draws.sides { drawn } else { SidesSource::Given(sides) };
+            part_three(inputs, dice, *mask, sides, out)
+        }
+    }
+}
+
+/// Runs the call; it writes its buffer alone, and where it refuses nothing.
+fn answer(mut call: PartCall) -> u8 {
+    let before = call.clone();
+    let answer = run(&mut call);
+    let out = if answer.is_ok() { call.out.clone() } else { before.out.clone() };
+    assert!(call == PartCall { out, ..before });
+    answer.map_or_else(|number| number, |()| 0)
+}

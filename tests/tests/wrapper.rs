@@ -1,0 +1,189 @@
+//! An election with the wrapper, from the tablets to the tally.
+
+use paddockyear_tests::boards::{board_with_dice, inputs, modulus, BOTH};
+use paddockyear_tests::random::Random;
+use paddockyear_tests::reference::terms::Parameters;
+use paddockyear_tests::reference::writer::Inputs;
+use paddockyear_tests::wrapper::*;
+
+const M: u32 = 1000;
+
+fn keys(random: &mut Random) -> [Key; 6] {
+    std::array::from_fn(|_| random.bytes(32).try_into().unwrap())
+}
+
+/// Six votes, with ids that do not follow each other.
+fn ballots(random: &mut Random) -> Vec<Ballot> {
+    let cast = [(17, 5), (40, 2), (41, 5), (1_000, 999), (70_000, 0), (u32::MAX, 5)];
+    cast.map(|(id, vote)| Ballot {
+        id,
+        vote,
+        shares: std::array::from_fn(|_| random.number(M)),
+        first_halves: std::array::from_fn(|_| random.number(M)),
+        keys: keys(random),
+    })
+    .to_vec()
+}
+
+fn list(random: &mut Random, n: usize) -> List {
+    let column = |random: &mut Random| Column {
+        offsets: (0..n).map(|_| [random.number(M), random.number(M)]).collect(),
+        permutation: random.permutation(n),
+    };
+    List {
+        columns: [column(random), column(random), column(random)],
+        first_halves: (0..n).map(|_| std::array::from_fn(|_| random.number(M))).collect(),
+        keys: (0..n).map(|_| keys(random)).collect(),
+    }
+}
+
+fn election(random: &mut Random) -> Election {
+    let ballots = ballots(random);
+    let lists = (0..6).map(|_| list(random, ballots.len())).collect();
+    Election { modulus: M, ballots, lists }
+}
+
+fn drawn(random: &mut Random) -> Throws {
+    Throws { first: random.dice(), mask: None, second: random.dice(), sides: None }
+}
+
+#[test]
+fn from_the_tablets_to_the_tally() {
+    let random = &mut Random::new(240);
+    let election = election(random);
+    let cast: Vec<(Command, Receipt)> =
+        election.ballots.iter().map(|ballot| cast(M, ballot).unwrap()).collect();
+    let Posted { parts, record } = elect(&election, &drawn(random)).unwrap();
+    assert_eq!(record, parts.concat());
+
+    let commands: Vec<u8> = cast.iter().flat_map(|(command, _)| command.0).collect();
+    assert_eq!(parts[0][8..8 + 197 * 6], commands);
+    for (_, receipt) in &cast {
+        assert_eq!(check_receipt(&record, receipt), Ok(Found::AsPrinted));
+        assert_eq!(check_receipt(&parts[0], receipt), Ok(Found::AsPrinted));
+    }
+    let mut other = cast[2].1;
+    other.0[31] ^= 1;
+    assert_eq!(check_receipt(&record, &other), Ok(Found::Otherwise));
+    other.0[3] += 1;
+    assert_eq!(check_receipt(&record, &other), Ok(Found::NotPosted));
+
+    assert_eq!((judge(&record, false), judge(&record, true)), (Ok(()), Ok(())));
+    assert_eq!(announced_votes(&record), Ok(vec![0, 2, 5, 5, 5, 999]));
+    assert_eq!(tally(&record), Ok(vec![(0, 1), (2, 1), (5, 3), (999, 1)]));
+}
+
+/// A given mask and given sides are taken; only plain judging has to accept them.
+#[test]
+fn given_mask_and_sides() {
+    let random = &mut Random::new(241);
+    let election = election(random);
+    let throws = Throws { sides: Some(vec![1, 0, 0, 1, 1, 0]), ..drawn(random) };
+    for mask in [0b000111, 0b111000, 0b010101] {
+        let throws = Throws { mask: Some(mask), ..throws.clone() };
+        let posted = elect(&election, &throws).unwrap();
+        assert_eq!(posted.parts[1][31..35], mask.to_be_bytes());
+        let side = |ballot: usize| posted.parts[2][31 + 448 * ballot + 3];
+        assert_eq!((0..6).map(side).collect::<Vec<u8>>(), [1, 0, 0, 1, 1, 0]);
+        assert_eq!(judge(&posted.record, false), Ok(()));
+        assert_eq!(tally(&posted.record).unwrap().len(), 4);
+    }
+}
+
+#[test]
+fn refused_ballots() {
+    let random = &mut Random::new(242);
+    let ballot = ballots(random).remove(0);
+    let too_large = Ballot { vote: M, ..ballot.clone() };
+    assert_eq!(cast(M, &too_large), Err(Refusal(10)));
+    assert!(cast(M + 1, &too_large).is_ok());
+    assert_eq!(cast(1, &ballot), Err(Refusal(3)));
+    assert_eq!(Refusal(3).to_string(), "rule 3: M, n or m outside its limits");
+    assert_eq!(Refusal(19).to_string(), "rule 19: a permutation that is none");
+    assert_eq!(Refusal(20).to_string(), "rule 20: no such rule");
+}
+
+#[test]
+fn refused_elections() {
+    let random = &mut Random::new(243);
+    let (honest, throws) = (election(random), drawn(random));
+    let refused = |change: fn(&mut Election, &mut Throws)| {
+        let (mut election, mut throws) = (honest.clone(), throws.clone());
+        change(&mut election, &mut throws);
+        elect(&election, &throws).map_or_else(|Refusal(number)| number, |_| 0)
+    };
+    assert_eq!(refused(|_, _| ()), 0);
+    assert_eq!(refused(|election, _| election.ballots.clear()), 3);
+    assert_eq!(refused(|election, _| election.lists.truncate(1)), 3);
+    assert_eq!(refused(|election, _| election.lists.truncate(5)), 18);
+    assert_eq!(refused(|election, _| election.lists[5].first_halves.truncate(5)), 18);
+    assert_eq!(refused(|election, _| election.ballots.swap(0, 1)), 5);
+    assert_eq!(refused(|_, throws| throws.first[0] = b'7'), 6);
+    assert_eq!(refused(|_, throws| throws.mask = Some(0b1111)), 7);
+    assert_eq!(refused(|election, _| election.lists[0].columns[2].offsets[5][1] = M), 10);
+    assert_eq!(refused(|_, throws| throws.sides = Some(vec![2; 6])), 11);
+    assert_eq!(refused(|_, throws| throws.sides = Some(vec![0; 5])), 18);
+    assert_eq!(refused(|election, _| election.lists[1].columns[0].permutation[0] = 6), 19);
+}
+
+#[test]
+fn refused_records() {
+    let random = &mut Random::new(244);
+    let election = election(random);
+    let mut record = elect(&election, &drawn(random)).unwrap().record;
+    let end = record.len() - 1;
+    assert_eq!(announced_votes(&record[..end]), Err(Refusal(1)));
+    assert_eq!((tally(&[]), judge(&[], true)), (Err(Refusal(1)), Err(Refusal(1))));
+    let receipt = Receipt(record[..32].try_into().unwrap());
+    assert_eq!(check_receipt(&record[..1000], &receipt), Err(Refusal(1)));
+    record[end - 1] ^= 1;
+    assert_eq!(tally(&record), Err(Refusal(13)));
+}
+
+/// The same election in the flat order.
+fn nested(inputs: &Inputs) -> Election {
+    let n = inputs.parameters.ballots();
+    let (of_ballots, of_lists) = inputs.numbers.split_at(5 * n);
+    let keys: Vec<[Key; 6]> = inputs
+        .keys
+        .chunks(192)
+        .map(|six| std::array::from_fn(|slot| six[32 * slot..][..32].try_into().unwrap()))
+        .collect();
+    let ballot = |j: usize| {
+        let [x, y, u1, u2, u3] = of_ballots[5 * j..][..5].try_into().unwrap();
+        let (shares, first_halves) = ([x, y], [u1, u2, u3]);
+        Ballot { id: inputs.ids[j], vote: inputs.votes[j], shares, first_halves, keys: keys[j] }
+    };
+    let list = |l: usize| {
+        let (offsets, firsts) = of_lists[9 * n * l..][..9 * n].split_at(6 * n);
+        let column = |c: usize| Column {
+            offsets: (0..n).map(|i| [0, 1].map(|row| offsets[2 * (c * n + i) + row])).collect(),
+            permutation: inputs.permutations[n * (3 * l + c)..][..n].to_vec(),
+        };
+        List {
+            columns: [column(0), column(1), column(2)],
+            first_halves: firsts.chunks(3).map(|three| three.try_into().unwrap()).collect(),
+            keys: keys[n * (1 + l)..][..n].to_vec(),
+        }
+    };
+    Election {
+        modulus: inputs.parameters.modulus,
+        ballots: (0..n).map(ballot).collect(),
+        lists: (0..inputs.parameters.lists()).map(list).collect(),
+    }
+}
+
+#[test]
+fn the_flat_order() {
+    let random = &mut Random::new(245);
+    for (n, m) in [(1, 1), (5, 3), (12, 12), (300, 1)] {
+        let parameters = Parameters { modulus: modulus(random), n, m };
+        let inputs = inputs(random, parameters);
+        let throws = drawn(random);
+        let dice = [throws.first.clone(), throws.second.clone()];
+        let board = board_with_dice(random, &inputs, &dice, BOTH);
+        let posted = elect(&nested(&inputs), &throws).unwrap();
+        assert!(posted.parts == board.parts);
+        assert!(posted.record == board.record());
+    }
+}
