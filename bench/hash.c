@@ -1,14 +1,12 @@
 /* Times of the product's SHA-3 and of OpenSSL's, taken in turn in one run, and their ratios. */
 
+#include "paddockyear.h"
 #include "support.h"
 
 #include <openssl/evp.h>
 #include <stdio.h>
 #include <stdlib.h>
 #include <string.h>
-
-void paddockyear_sha3_256(const uint8_t *m, size_t m_len, uint8_t out[32]);
-void paddockyear_keccak_f(uint64_t lanes[25]);
 
 enum { REPETITIONS = 60, RATE = 136, SHORT = 36, LONG = 5000000 };
 enum { SHORT_CALLS = 2000, PERMUTATIONS = 2000 };
@@ -62,10 +60,8 @@ static void compare(const char *name, double (*ours)(void), double (*openssl)(vo
     double best_ours = ours();
     double best_openssl = openssl();
     for (int i = 1; i < REPETITIONS; i++) {
-        double time_ours = ours();
-        double time_openssl = openssl();
-        best_ours = time_ours < best_ours ? time_ours : best_ours;
-        best_openssl = time_openssl < best_openssl ? time_openssl : best_openssl;
+        best_ours = smaller(ours(), best_ours);
+        best_openssl = smaller(openssl(), best_openssl);
     }
     printf("%-26s ours %10.3f us   OpenSSL %10.3f us   ratio %.3f\n", name, 1e6 * best_ours,
            1e6 * best_openssl, best_ours / best_openssl);

@@ -3,17 +3,12 @@
  * boards come from standard input. */
 
 #include "judge.h"
+#include "paddockyear.h"
 #include "support.h"
 
 #include <stdio.h>
-#include <string.h>
-#include <sys/mman.h>
-#include <ucontext.h>
-
-uint32_t paddockyear_judge_as_drawn(const uint8_t *bytes, size_t len);
 
 enum { REPETITIONS = 20, MAX_BOARDS = 8 };
-enum { STACK = 16 << 20, GUARD = 1 << 16, PAINT = 0xA5 };
 
 static struct posted boards[MAX_BOARDS];
 static struct row {
@@ -22,8 +17,6 @@ static struct row {
 static int count;
 
 static const struct posted *board;
-static uint8_t *stack;
-static ucontext_t here, there;
 
 static void ours(void) {
     demand(paddockyear_judge_as_drawn(board->record, board->length) == 0, "our judge refuses");
@@ -32,38 +25,6 @@ static void ours(void) {
 static void plain_c(void) {
     size_t place;
     demand(judge(board->record, board->length, 1, &place) == 0, "the C judge refuses");
-}
-
-static void nothing(void) {}
-
-static double time_once(void (*run)(void)) {
-    double start = seconds();
-    run();
-    return seconds() - start;
-}
-
-static double smaller(double a, double b) { return a < b ? a : b; }
-
-/* How much of a painted stack a function touches. */
-static size_t touched(void (*run)(void)) {
-    memset(stack, PAINT, STACK);
-    demand(getcontext(&there) == 0, "no context");
-    there.uc_stack.ss_sp = stack;
-    there.uc_stack.ss_size = STACK;
-    there.uc_link = &here;
-    makecontext(&there, run, 0);
-    demand(swapcontext(&here, &there) == 0, "no context");
-    size_t left = 0;
-    while (left < STACK && stack[left] == PAINT) left++;
-    return STACK - left;
-}
-
-/* A page group below the stack that nobody may touch. */
-static void make_stack(void) {
-    uint8_t *memory = mmap(NULL, GUARD + STACK, PROT_READ | PROT_WRITE,
-                           MAP_PRIVATE | MAP_ANONYMOUS, -1, 0);
-    demand(memory != MAP_FAILED && mprotect(memory, GUARD, PROT_NONE) == 0, "no memory");
-    stack = memory + GUARD;
 }
 
 static void read_boards(void) {
@@ -103,15 +64,14 @@ static void print_stack(void) {
     size_t most = 0;
     for (int i = 0; i < count; i++) {
         board = &boards[i];
-        size_t used = touched(ours);
+        size_t used = stack_of(ours);
         most = used > most ? used : most;
     }
-    printf("Stack of our judge         %zu bytes\n", most - touched(nothing));
+    printf("Stack of our judge         %zu bytes\n", most);
 }
 
 int main(void) {
     demand(judge_start(), "no SHA-3 in OpenSSL");
-    make_stack();
     read_boards();
     time_boards();
     print_times();

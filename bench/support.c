@@ -2,7 +2,12 @@
 
 #include <stdio.h>
 #include <stdlib.h>
+#include <string.h>
+#include <sys/mman.h>
 #include <time.h>
+#include <ucontext.h>
+
+enum { STACK = 16 << 20, GUARD = 1 << 16, PAINT = 0xA5 };
 
 void demand(int holds, const char *what) {
     if (!holds) {
@@ -16,6 +21,44 @@ double seconds(void) {
     clock_gettime(CLOCK_THREAD_CPUTIME_ID, &now);
     return (double)now.tv_sec + 1e-9 * (double)now.tv_nsec;
 }
+
+double time_once(void (*run)(void)) {
+    double start = seconds();
+    run();
+    return seconds() - start;
+}
+
+double smaller(double a, double b) { return a < b ? a : b; }
+
+/* A stack with a page group below it that nobody may touch; made once. */
+static uint8_t *painted_stack(void) {
+    static uint8_t *memory;
+    if (memory == NULL) {
+        memory =
+            mmap(NULL, GUARD + STACK, PROT_READ | PROT_WRITE, MAP_PRIVATE | MAP_ANONYMOUS, -1, 0);
+        demand(memory != MAP_FAILED && mprotect(memory, GUARD, PROT_NONE) == 0, "no memory");
+    }
+    return memset(memory + GUARD, PAINT, STACK);
+}
+
+/* How much of a painted stack a function touches. */
+static size_t touched(void (*run)(void)) {
+    static ucontext_t here, there;
+    uint8_t *stack = painted_stack();
+    demand(getcontext(&there) == 0, "no context");
+    there.uc_stack.ss_sp = stack;
+    there.uc_stack.ss_size = STACK;
+    there.uc_link = &here;
+    makecontext(&there, run, 0);
+    demand(swapcontext(&here, &there) == 0, "no context");
+    size_t left = 0;
+    while (left < STACK && stack[left] == PAINT) left++;
+    return STACK - left;
+}
+
+static void nothing(void) {}
+
+size_t stack_of(void (*run)(void)) { return touched(run) - touched(nothing); }
 
 /* A number of 8 bytes; 0 at the end of the input. */
 static int read_number(size_t *number) {

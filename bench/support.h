@@ -11,6 +11,11 @@ void demand(int holds, const char *what);
 
 /* The processor's time, so that other programs weigh little. */
 double seconds(void);
+double time_once(void (*run)(void));
+double smaller(double a, double b);
+
+/* The bytes of stack that a function touches, beyond what an empty one does. */
+size_t stack_of(void (*run)(void));
 
 struct verdict {
     int number;
