@@ -77,7 +77,7 @@ pub fn is_permutation(n: usize, permutation: &[u16]) -> bool
 }
 
 // Whether each id is above the one before.
-pub fn ids_rise(ids: &[u32]) -> bool
+fn ids_rise(ids: &[u32]) -> bool
     ensures { λ r. ⌜ r ≡ rising (now (ids .entry)) ⌝ }
 {
     let mut i: usize = 1;
@@ -105,7 +105,7 @@ pub fn binary_sides(sides: &[u8]) -> bool
 }
 
 // Whether all three permutations of every list are permutations.
-pub fn all_permutations(ballots: usize, lists: usize, permutations: &[u16]) -> bool
+fn all_permutations(ballots: usize, lists: usize, permutations: &[u16]) -> bool
     requires { ⌜ (ballots ≤ mostBallots) × ((lists ≤ 24) × (length (now permutations) ≡ lists * (3 * ballots))) ⌝ }
     ensures { λ r. ⌜ r ≡ permutationsIn ballots lists (now (permutations .entry)) ⌝ }
 {

@@ -23,7 +23,7 @@ pub fn mix_row(modulus: u32, numbers: &[u32], offsets: &[u32], permutation: &[u1
 }
 
 // Row three's offset at each place: with those of rows one and two it makes 0.
-pub fn third_row(modulus: u32, first: &[u32], second: &[u32], out: &mut [u32])
+fn third_row(modulus: u32, first: &[u32], second: &[u32], out: &mut [u32])
     requires { ⌜ PairReady modulus (now first) (now second) (length (now out)) ⌝ }
     ensures { λ _. ⌜ now (out .exit) ≡ thirdOffsets modulus (now (first .entry)) (now (second .entry)) ⌝ }
 {
@@ -37,7 +37,7 @@ pub fn third_row(modulus: u32, first: &[u32], second: &[u32], out: &mut [u32])
 }
 
 // The second halves of a row: each number less its first half.
-pub fn split_row(modulus: u32, numbers: &[u32], first_halves: &[u32], out: &mut [u32])
+fn split_row(modulus: u32, numbers: &[u32], first_halves: &[u32], out: &mut [u32])
     requires { ⌜ PairReady modulus (now numbers) (now «first_halves») (length (now out)) ⌝ }
     ensures { λ _. ⌜ now (out .exit) ≡ secondHalves modulus (now (numbers .entry)) (now («first_halves» .entry)) ⌝ }
 {

@@ -15,7 +15,7 @@ ghost use Rattle.openings.specs.Opened.{openingAt, Openings, BallotHalfR
 use protocol::Parameters;
 
 // Whether the numbers of k openings, one behind the other, are below the modulus.
-pub fn numbers_below(bytes: &[u8], at: usize, k: usize, modulus: u32) -> bool
+fn numbers_below(bytes: &[u8], at: usize, k: usize, modulus: u32) -> bool
     requires { ⌜ (k ≤ 6) × (at + 36 * k ≤ length (now bytes)) ⌝ }
     ensures { λ r. ⌜ r ≡ numbersBelow modulus (openingAt (now (bytes .entry)) at) k ⌝ }
 {
@@ -30,7 +30,7 @@ pub fn numbers_below(bytes: &[u8], at: usize, k: usize, modulus: u32) -> bool
 }
 
 // Whether k openings, one behind the other, give the commitments that stand `step` bytes apart from `posted` on.
-pub fn openings_give(bytes: &[u8], at: usize, posted: usize, step: usize, k: usize) -> bool
+fn openings_give(bytes: &[u8], at: usize, posted: usize, step: usize, k: usize) -> bool
     requires { ⌜ Openings (now bytes) at posted step k ⌝ }
     ensures { λ r. ⌜ ((place : ℕ → Place) → r ≡ every (λ i. gives (place i) (openingAt (now (bytes .entry)) at i) (piece (now (bytes .entry)) (posted + step * i) 32)) k) ⌝ }
 {
@@ -45,7 +45,7 @@ pub fn openings_give(bytes: &[u8], at: usize, posted: usize, step: usize, k: usi
 }
 
 // The numbers of three openings, summed.
-pub fn sum_of_three(bytes: &[u8], at: usize, modulus: u32) -> u32
+fn sum_of_three(bytes: &[u8], at: usize, modulus: u32) -> u32
     requires { ⌜ (at + 108 ≤ length (now bytes)) × (numbersBelow modulus (openingAt (now bytes) at) 3 ≡ true) ⌝ }
     ensures { λ r. ⌜ (r ≡ sumOfThree modulus (openingAt (now (bytes .entry)) at)) × (r < modulus) ⌝ }
 {
@@ -58,7 +58,7 @@ pub fn sum_of_three(bytes: &[u8], at: usize, modulus: u32) -> u32
 }
 
 // The numbers of six openings, summed.
-pub fn sum_of_six(bytes: &[u8], at: usize, modulus: u32) -> u32
+fn sum_of_six(bytes: &[u8], at: usize, modulus: u32) -> u32
     requires { ⌜ (at + 216 ≤ length (now bytes)) × (numbersBelow modulus (openingAt (now bytes) at) 6 ≡ true) ⌝ }
     ensures { λ r. ⌜ (r ≡ sumOfSix modulus (openingAt (now (bytes .entry)) at)) × (r < modulus) ⌝ }
 {

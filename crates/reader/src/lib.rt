@@ -15,7 +15,7 @@ pub struct Context {
 
 // The number of the first rule that the due command at a place breaks, or 0: no byte left 1, byte not due 2, cut short 1, then its rules.
 // `text` is what mask or sides are drawn from, `marks` tells the taken positions of a link's list.
-pub fn command(
+fn command(
     bytes: &[u8],
     at: usize,
     due: Due,
@@ -132,13 +132,13 @@ pub fn command(
 }
 
 // The lent record and the next command's place.
-pub struct Reader<'a> {
+struct Reader<'a> {
     pub bytes: &'a [u8],
     pub at: usize,
 }
 
 // The due command at the reader's place.
-pub fn read<'a, 'b, 'c>(
+fn read<'a, 'b, 'c>(
     r: Reader<'a>,
     due: Due,
     c: Context,

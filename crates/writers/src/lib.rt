@@ -20,7 +20,7 @@ pub struct Split {
 }
 
 // The number in slot q of u1, v1, u2, v2, u3, v3.
-pub fn slot(s: Split, q: usize) -> u32
+fn slot(s: Split, q: usize) -> u32
     requires { ⌜ SplitReady s × (q < 6) ⌝ }
     ensures { λ r. ⌜ (r ≡ slotNumber s q) × (r < s .modulus) ⌝ }
 {
@@ -33,7 +33,7 @@ pub fn slot(s: Split, q: usize) -> u32
 }
 
 // The six commitments of a split with its six keys.
-pub fn put_six_commitments(out: &mut [u8], at: usize, s: Split, keys: &[u8]) -> usize
+fn put_six_commitments(out: &mut [u8], at: usize, s: Split, keys: &[u8]) -> usize
     requires { ⌜ SplitReady s × ((length (now keys) ≡ 192) × (at + 192 ≤ length (now out))) ⌝ }
     ensures { λ r. ⌜ ((place : ℕ → Place) → Went (now (out .entry)) at (chunks (λ q. commitment (place q) (slotOpening s (now (keys .entry)) q)) 6) (now (out .exit)) r) ⌝ }
 {
@@ -74,7 +74,7 @@ fn put_openings(
 }
 
 // All six openings of a split.
-pub fn put_six_openings(out: &mut [u8], at: usize, s: Split, keys: &[u8]) -> usize
+fn put_six_openings(out: &mut [u8], at: usize, s: Split, keys: &[u8]) -> usize
     requires { ⌜ SplitReady s × ((length (now keys) ≡ 192) × (at + 216 ≤ length (now out))) ⌝ }
     ensures { λ r. ⌜ Went (now (out .entry)) at (chunks (slotOpening s (now (keys .entry))) 6) (now (out .exit)) r ⌝ }
 {
@@ -82,7 +82,7 @@ pub fn put_six_openings(out: &mut [u8], at: usize, s: Split, keys: &[u8]) -> usi
 }
 
 // The three openings of one side of a split.
-pub fn put_three_openings(out: &mut [u8], at: usize, side: usize, s: Split, keys: &[u8]) -> usize
+fn put_three_openings(out: &mut [u8], at: usize, side: usize, s: Split, keys: &[u8]) -> usize
     requires { ⌜ SplitReady s × ((side ≤ 1) × ((length (now keys) ≡ 192) × (at + 108 ≤ length (now out)))) ⌝ }
     ensures { λ r. ⌜ Went (now (out .entry)) at (chunks (λ k. slotOpening s (now (keys .entry)) (2 * k + side)) 3) (now (out .exit)) r ⌝ }
 {
