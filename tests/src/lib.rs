@@ -2,6 +2,7 @@
 //! tests run through it and through the product.
 
 pub mod boards;
+pub mod edits;
 #[cfg(feature = "linked")]
 pub mod ffi;
 pub mod lent;
