@@ -92,15 +92,31 @@ pub fn refused(report: &str, name: &str, function: &str) -> bool {
     if said.starts_with("no proof") {
         return said.contains("does not close");
     }
-    said.starts_with("not proved") && report.lines().any(|line| is_own_error(line, function))
+    said.starts_with("not proved") && has_own_error(report, function)
 }
 
-fn is_own_error(line: &str, function: &str) -> bool {
+/// What the prover says of another declaration, and of a name that the changed code no longer has.
+const CONSEQUENCES: [&str; 3] =
+    ["was not admitted (", "that can be named from here", "has no field"];
+
+/// The errors of a report, each with the indented lines that go on with it.
+fn errors(report: &str) -> Vec<(&str, String)> {
+    let mut all: Vec<(&str, String)> = Vec::new();
+    for line in report.lines() {
+        match (line.split_once(": error: "), all.last_mut()) {
+            (Some((place, message)), _) => all.push((place, message.to_string())),
+            (None, Some((_, message))) if line.starts_with("  ") => message.push_str(line),
+            _ => {}
+        }
+    }
+    all
+}
+
+fn has_own_error(report: &str, function: &str) -> bool {
     let own = [format!("/proofs/{function}/"), format!("/proofs/+{function}/")];
-    line.split_once(": error: ").is_some_and(|(place, message)| {
+    errors(report).iter().any(|(place, message)| {
         own.iter().any(|folder| place.contains(folder.as_str()))
-            && !message.contains("was not admitted (")
-            && !message.contains("that can be named from here")
+            && !CONSEQUENCES.iter().any(|words| message.contains(words))
     })
 }
 

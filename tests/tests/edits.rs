@@ -38,7 +38,11 @@ const REPORT: &str = "\
 /r/proofs/add/Proof.antt:12:3: error: `add-spec`: `returns` was not admitted (it has holes), so this cannot be checked
 /r/proofs/twice/Proof.antt:7:3: error: `twice-spec`: `close` was not admitted (it has holes), so this cannot be checked
 /r/proofs/face/Proof.antt:8:2: error: `need`: module `m` has no `Need-add` that can be named from here
+/r/proofs/moved/Proof.antt:8:2: error: `need`: this does not fit:
+  record `Start` has no field `before`
+/r/proofs/moved/Proof.antt:9:1: note: the two sides may simply be different
 fn crate::add: not proved
+fn crate::moved: not proved
 fn crate::twice: not proved; it calls `crate::add`, which is not proved
 fn crate::face: not proved
 fn crate::made: no proof: expected `made-spec`; `search` does not close `returns`
@@ -79,6 +83,7 @@ fn only_a_fact_of_its_own_refuses_a_function() {
     assert!(refused(REPORT, "crate", "add"));
     assert!(!refused(REPORT, "crate", "twice"), "a consequence of another function's error");
     assert!(!refused(REPORT, "crate", "face"), "a name that the changed code no longer has");
+    assert!(!refused(REPORT, "crate", "moved"), "a field that the changed code no longer has");
     assert!(refused(REPORT, "crate", "made"), "the search for a proof fails");
     assert!(!refused(REPORT, "crate", "kept"));
     assert!(!refused(REPORT, "other", "add"));
