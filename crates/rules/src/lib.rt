@@ -153,7 +153,8 @@ pub fn second_dice_rules(p: Parameters, bytes: &[u8], at: usize) -> u32
     requires { ⌜ (at ≡ atSecondDice p) × (at + 31 ≤ length (now bytes)) ⌝ }
     ensures { λ k. ⌜ k ≡ secondDiceRules p (now (bytes .entry)) ⌝ }
 {
-    if !fair_dice(bytes, at + 1) {
+    let fair = fair_dice(bytes, at + 1);
+    if !fair {
         return 6;
     }
     0
