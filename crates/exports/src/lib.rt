@@ -352,7 +352,6 @@ fn outcome_code(o: Outcome) -> u32
 }
 
 // The three calls and the judge as one election: 0 for a record that is written and accepted, else the refusal's number. `mask_given` and
-// The three calls and the judge as one election: 0 for a record that is written and accepted, else the refusal's number. `mask_given` and
 // `sides_given` are 0 where mask or sides are to be drawn.
 #[no_mangle]
 pub extern "C" fn paddockyear_election(
