@@ -80,6 +80,35 @@ pub fn enclosing<'a>(source: &'a str, text: &str) -> Option<(&'a str, &'a str)> 
     source[..line_end].lines().filter_map(item_of).last()
 }
 
+/// The text of a function, from its name up to the next item.
+fn text_of<'a>(source: &'a str, function: &str) -> &'a str {
+    let begins = |line: &str| item_of(line).is_some_and(|item| item == ("fn", function));
+    let mut at = 0;
+    let mut found = None;
+    for line in source.split_inclusive('\n') {
+        match found {
+            None if begins(line) => found = Some(at),
+            Some(start) if item_of(line).is_some() => return &source[start..at],
+            _ => {}
+        }
+        at += line.len();
+    }
+    found.map_or("", |start| &source[start..])
+}
+
+/// Whether a function calls another one of the same file, itself or by way of others.
+pub fn reaches(source: &str, from: &str, to: &str) -> bool {
+    let names: Vec<&str> = source.lines().filter_map(item_of).map(|(_, name)| name).collect();
+    let mut known = BTreeSet::from([from]);
+    let mut left = vec![from];
+    while let Some(caller) = left.pop() {
+        let text = text_of(source, caller);
+        let called = names.iter().filter(|name| text.contains(&format!("{name}(")));
+        left.extend(called.filter(|name| known.insert(name)));
+    }
+    known.contains(to)
+}
+
 /// Whether the prover's report refuses a function because a fact of its own does not hold: the
 /// report names the function, and has an error in its proof that is neither about another
 /// declaration nor about a name that the changed code no longer has. A function that has no proof
@@ -147,6 +176,10 @@ pub fn faults(
                 continue;
             }
         };
+        let guarded = public_functions(&text).contains(&&edit.contract[..]);
+        if kind == "fn" && !(guarded && reaches(&text, &edit.contract, &edit.item)) {
+            say("it is not for a public function that calls the changed one");
+        }
         let judge = if kind == "fn" { &edit.item } else { &edit.contract };
         if !refused(report, name, judge) {
             say("no fact of its own refuses it");

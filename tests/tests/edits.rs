@@ -1,6 +1,6 @@
 //! The reading of must-fail rounds, on reports in the prover's form that are written here: what counts as refused, and what does not.
 
-use paddockyear_tests::edits::{enclosing, faults, parse, public_functions, refused};
+use paddockyear_tests::edits::{enclosing, faults, parse, public_functions, reaches, refused};
 
 const SOURCE: &str = "\
 const STEP: u32 = 7;
@@ -79,6 +79,13 @@ fn items_and_public_functions_are_found() {
 }
 
 #[test]
+fn calls_are_followed() {
+    assert!(reaches(SOURCE, "face", "add"), "by way of another function");
+    assert!(reaches(SOURCE, "add", "add"));
+    assert!(!reaches(SOURCE, "add", "twice"));
+}
+
+#[test]
 fn only_a_fact_of_its_own_refuses_a_function() {
     assert!(refused(REPORT, "crate", "add"));
     assert!(!refused(REPORT, "crate", "twice"), "a consequence of another function's error");
@@ -92,13 +99,18 @@ fn only_a_fact_of_its_own_refuses_a_function() {
 
 #[test]
 fn faults_of_a_round_are_named() {
-    let source = |file: &str| (file == "src/lib.rt").then(|| SOURCE.to_string());
-    let edits = parse(ROUND).expect("a round");
-    let found = faults("crate", &edits, source, REPORT);
-    assert_eq!(found, ["crate/never_twice: no fact of its own refuses it"]);
-    let elsewhere =
-        parse("edit: a in twice\nfile: src/lib.rt\nold: x + y\nnew: x\n").expect("a round");
-    assert_eq!(faults("crate", &elsewhere, source, REPORT).len(), 1);
-    let twice = parse("edit: a in add\nfile: src/lib.rt\nold: x + y\nnew: x\nedit: b in add\nold: y: u32\nnew: z: u32\n");
-    assert_eq!(faults("crate", &twice.expect("a round"), source, REPORT).len(), 1);
+    let named = |round: &str| {
+        let source = |file: &str| (file == "src/lib.rt").then(|| SOURCE.to_string());
+        faults("crate", &parse(round).expect("a round"), source, REPORT)
+    };
+    assert_eq!(named(ROUND), ["crate/never_twice: no fact of its own refuses it"]);
+    let elsewhere = "edit: a in twice\nfile: src/lib.rt\nold: x + y\nnew: x\n";
+    assert!(named(elsewhere)[0].contains("does not change the item"));
+    let same = "edit: a in add for twice\nfile: src/lib.rt\nold: x + y\nnew: x\n\
+                edit: b in add for twice\nold: y: u32\nnew: z: u32\n";
+    assert!(named(same)[0].contains("changes the same item"));
+    let unguarded = "edit: a in add\nfile: src/lib.rt\nold: x + y\nnew: x\n";
+    assert!(named(unguarded)[0].contains("not for a public function"));
+    let missing = "edit: a in add for twice\nfile: src/main.rt\nold: x + y\nnew: x\n";
+    assert!(named(missing)[0].contains("no such file"));
 }
