@@ -79,19 +79,19 @@ pub fn copy(out: &mut [u8], at: usize, src: &[u8]) -> usize
     at + i
 }
 
-// Whether a and b are the same bytes.
+// Whether a and b are the same bytes. It does not stop at the first difference: a loop that goes through to the end
+// lets the compiler compare many bytes at once.
 pub fn same_bytes(a: &[u8], b: &[u8]) -> bool
     ensures { λ r. ⌜ r ≡ same (now (a .entry)) (now (b .entry)) ⌝ }
 {
     if a.len() != b.len() {
         return false;
     }
+    let mut equal = true;
     let mut i: usize = 0;
     while i < a.len() {
-        if a[i] != b[i] {
-            return false;
-        }
+        equal = equal & (a[i] == b[i]);
         i += 1;
     }
-    true
+    equal
 }

@@ -1,22 +1,32 @@
--- `wire::same_bytes` meets its contract. The loop: the bytes passed are equal.
+-- `wire::same_bytes` meets its contract. The loop: `equal` says whether the bytes passed are equal.
 use mathlib.Core.Path.{_≡_, refl, sym, ap, _∙_}
-use mathlib.Core.Bool.{Bool, true}
+use mathlib.Core.Bool.{Bool, true, false, _&&_}
 use mathlib.Core.List.{List}
-use Prim.Native.Nat.{ℕ, _-_, _≤_}
+use Prim.Native.Nat.{ℕ, _+_, _-_, _≤_}
+use native.Mathlib.Numerals.{add-one}
 use native.Mathlib.Omega.{arith}
 use lib.ListN.{length, getD}
-use Rattle.laws.specs.Tests.{equal, every, same, same-iff, same-every, every-more, every-stop, is-equal, not-equal, refuted}
+use Rattle.laws.specs.Tests.{equal, _and_, every, same, same-iff, same-every, refuted}
 use Rattle.wire.proofs.same_bytes.Statement.{statement}
 use Rattle.wire.proofs.same_bytes.Tie as tie
 
 abbrev alike : List ℕ → List ℕ → ℕ → Bool
 alike a b k = equal (getD a k 0) (getD b k 0)
 
+-- a turn of a loop that goes through to the end
+every-turn : (f : ℕ → Bool) (i : ℕ) {r : Bool} → r ≡ every f i → (r && f i) ≡ every f (i + 1)
+unfolding every _and_
+every-turn f i e = rw (add-one, e) (as-and (every f i) (f i))
+  where
+    as-and : (x y : Bool) → (x && y) ≡ (x and y)
+    as-and true y = refl
+    as-and false y = refl
+
 abbrev Inv-loop : tie.InvT-loop
-Inv-loop a b i₀ i = (i ≤ length a) × (every (alike a b) i ≡ true)
+Inv-loop a b equal₀ i₀ equal i = (i ≤ length a) × (equal ≡ every (alike a b) i)
 
 abbrev μ-loop : tie.MeasureT-loop
-μ-loop a b i₀ i = length a - i
+μ-loop a b equal₀ i₀ equal i = length a - i
 
 returns : tie.Need-returns Inv-loop μ-loop
 returns c =
@@ -28,18 +38,11 @@ loop-holds : tie.Need-loop-holds Inv-loop μ-loop
 unfolding every
 loop-holds c = (omega arith, refl)
 
-shared-slice-read-if2 : tie.Need-shared-slice-read-if2 Inv-loop μ-loop
-shared-slice-read-if2 c = omega arith
+shared-slice-read-equal : tie.Need-shared-slice-read-equal Inv-loop μ-loop
+shared-slice-read-equal c = omega arith
 
-shared-slice-read-if2-2 : tie.Need-shared-slice-read-if2-2 Inv-loop μ-loop
-shared-slice-read-if2-2 c = omega arith
-
-returns-2 : tie.Need-returns-2 Inv-loop μ-loop
-returns-2 c =
-    let g = c .before .before .before .before in
-    let a = g .before .before .args .a .now in
-    let b = g .before .before .args .b .now in
-    every-stop (alike a b) (length a) (g .loop .i) (omega arith) (not-equal (λ e. omega arith)) ∙ sym (same-every a b (omega arith))
+shared-slice-read-equal-2 : tie.Need-shared-slice-read-equal-2 Inv-loop μ-loop
+shared-slice-read-equal-2 c = omega arith
 
 add-i : tie.Need-add-i Inv-loop μ-loop
 add-i c = omega arith
@@ -48,14 +51,15 @@ loop-less : tie.Need-loop-less Inv-loop μ-loop
 loop-less c = omega arith
 
 loop-again : tie.Need-loop-again Inv-loop μ-loop
-loop-again c = (omega arith, every-more _ _ (c .before .before .before .before .loop .inv .1) (is-equal (omega arith)))
+unfolding equal
+loop-again c = (omega arith, every-turn _ _ (c .before .before .before .loop .inv .1))
 
-returns-3 : tie.Need-returns-3 Inv-loop μ-loop
-returns-3 c =
+returns-2 : tie.Need-returns-2 Inv-loop μ-loop
+returns-2 c =
     let a = c .before .before .before .args .a .now in
     let b = c .before .before .before .args .b .now in
     let e : c .before .loop .i ≡ length a = omega arith in
-    sym (same-every a b (omega arith) ∙ rw e at (c .before .loop .inv .1))
+    rw e at (c .before .loop .inv .1) ∙ sym (same-every a b (omega arith))
 
 pub same-bytes-spec : {M : Type 1} → statement M
 same-bytes-spec =
@@ -65,10 +69,9 @@ same-bytes-spec =
     μ-loop
     returns
     loop-holds
-    shared-slice-read-if2
-    shared-slice-read-if2-2
-    returns-2
+    shared-slice-read-equal
+    shared-slice-read-equal-2
     add-i
     loop-less
     loop-again
-    returns-3)
+    returns-2)
