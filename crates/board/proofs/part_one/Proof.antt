@@ -5,20 +5,14 @@ use Rattle.board.proofs.Unrefused.{part-ready}
 use Rattle.board.proofs.part_one.Statement.{statement}
 use Rattle.board.proofs.part_one.Tie as tie
 
-part-one-requires : tie.Need-part-one-requires
-part-one-requires c κs = search needs
-
 returns : tie.Need-returns
 returns c = refused _ _ _ _ (c .before .part-one .ensures) (c .if1 .taken)
 
 write-requires : tie.Need-write-requires
 write-requires c κs = part-ready _ _ (c .before .before .part-one .ensures) (c .before .if1 .left)
 
-same-length : tie.Need-same-length
-same-length c = search needs
-
 returns-2 : tie.Need-returns-2
 returns-2 c = done _ _ _ _ _ (c .before .before .before .before .before .part-one .ensures) (c .before .before .before .before .if1 .left) (c .before .before .write .ensures)
 
 pub part-one-spec : {M : Type 1} → statement M
-part-one-spec = tie.close (tie.spec part-one-requires returns write-requires same-length returns-2)
+part-one-spec = tie.close (tie.spec (λ c κs. search needs) returns write-requires (λ c. search needs) returns-2)

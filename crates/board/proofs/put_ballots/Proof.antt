@@ -19,29 +19,8 @@ abbrev μ-loop : tie.MeasureT-loop
 loop-holds : tie.Need-loop-holds Inv-loop μ-loop
 loop-holds c = (omega arith, start _ _ (omega arith))
 
-mul-from : tie.Need-mul-from Inv-loop μ-loop
-mul-from c = omega arith
-
-add-to : tie.Need-add-to Inv-loop μ-loop
-add-to c = omega arith
-
 ballot-split-requires : tie.Need-ballot-split-requires Inv-loop μ-loop
 ballot-split-requires c κs = (c .before .before .before .before .before .before .before .pre .0, omega arith)
-
-mul-put-ballot : tie.Need-mul-put-ballot Inv-loop μ-loop
-mul-put-ballot c = omega arith
-
-shared-slice-read-put-ballot : tie.Need-shared-slice-read-put-ballot Inv-loop μ-loop
-shared-slice-read-put-ballot c = omega arith
-
-sub-put-ballot : tie.Need-sub-put-ballot Inv-loop μ-loop
-sub-put-ballot c = omega arith
-
-part-put-ballot-start : tie.Need-part-put-ballot-start Inv-loop μ-loop
-part-put-ballot-start c = omega arith
-
-part-put-ballot-end : tie.Need-part-put-ballot-end Inv-loop μ-loop
-part-put-ballot-end c = omega arith
 
 put-ballot-requires : tie.Need-put-ballot-requires Inv-loop μ-loop
 put-ballot-requires c κs =
@@ -56,12 +35,6 @@ put-ballot-requires c κs =
       ),
     )
 
-add-j : tie.Need-add-j Inv-loop μ-loop
-add-j c = omega arith
-
-loop-less : tie.Need-loop-less Inv-loop μ-loop
-loop-less c = omega arith
-
 loop-again : tie.Need-loop-again Inv-loop μ-loop
 loop-again c =
     let s = c .before .before .before .before .before .before .before .before .before .before .before .before .before .before .args in
@@ -69,9 +42,6 @@ loop-again c =
       omega arith,
       ballot-turn (s .modulus) (length (s .ids .now)) (s .ids .now) (s .rows .now) (s .numbers .now) (s .keys .now) (at .j) (at .inv .1) (c .before .before .before .before .before .before .ballot-split .ensures .0) (c .before .before .put-ballot .ensures),
     )
-
-same-length : tie.Need-same-length Inv-loop μ-loop
-same-length c = omega arith
 
 returns : tie.Need-returns Inv-loop μ-loop
 returns c =
@@ -85,17 +55,17 @@ put-ballots-spec =
     Inv-loop
     μ-loop
     loop-holds
-    mul-from
-    add-to
+    (λ c. omega arith)
+    (λ c. omega arith)
     ballot-split-requires
-    mul-put-ballot
-    shared-slice-read-put-ballot
-    sub-put-ballot
-    part-put-ballot-start
-    part-put-ballot-end
+    (λ c. omega arith)
+    (λ c. omega arith)
+    (λ c. omega arith)
+    (λ c. omega arith)
+    (λ c. omega arith)
     put-ballot-requires
-    add-j
-    loop-less
+    (λ c. omega arith)
+    (λ c. omega arith)
     loop-again
-    same-length
+    (λ c. omega arith)
     returns)

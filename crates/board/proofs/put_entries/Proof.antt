@@ -18,41 +18,8 @@ abbrev μ-loop : tie.MeasureT-loop
 loop-holds : tie.Need-loop-holds Inv-loop μ-loop
 loop-holds c = (omega arith, start _ _ (omega arith))
 
-mul-from : tie.Need-mul-from Inv-loop μ-loop
-mul-from c = omega arith
-
-mul-from-2 : tie.Need-mul-from-2 Inv-loop μ-loop
-mul-from-2 c = omega arith
-
-add-from : tie.Need-add-from Inv-loop μ-loop
-add-from c = omega arith
-
-mul-from-3 : tie.Need-mul-from-3 Inv-loop μ-loop
-mul-from-3 c = omega arith
-
-add-from-2 : tie.Need-add-from-2 Inv-loop μ-loop
-add-from-2 c = omega arith
-
-add-to : tie.Need-add-to Inv-loop μ-loop
-add-to c = omega arith
-
 entry-split-requires : tie.Need-entry-split-requires Inv-loop μ-loop
 entry-split-requires c κs = (c .before .before .before .before .before .before .pre .0, omega arith)
-
-cast-put-entry : tie.Need-cast-put-entry Inv-loop μ-loop
-cast-put-entry c = omega arith
-
-cast-put-entry-2 : tie.Need-cast-put-entry-2 Inv-loop μ-loop
-cast-put-entry-2 c = omega arith
-
-sub-put-entry : tie.Need-sub-put-entry Inv-loop μ-loop
-sub-put-entry c = omega arith
-
-part-put-entry-start : tie.Need-part-put-entry-start Inv-loop μ-loop
-part-put-entry-start c = omega arith
-
-part-put-entry-end : tie.Need-part-put-entry-end Inv-loop μ-loop
-part-put-entry-end c = omega arith
 
 put-entry-requires : tie.Need-put-entry-requires Inv-loop μ-loop
 put-entry-requires c κs =
@@ -67,12 +34,6 @@ put-entry-requires c κs =
       ),
     )
 
-add-i : tie.Need-add-i Inv-loop μ-loop
-add-i c = omega arith
-
-loop-less : tie.Need-loop-less Inv-loop μ-loop
-loop-less c = omega arith
-
 loop-again : tie.Need-loop-again Inv-loop μ-loop
 loop-again c =
     let s = c .before .before .before .before .before .before .before .before .before .before .before .before .args in
@@ -80,9 +41,6 @@ loop-again c =
       omega arith,
       entry-turn (s .modulus) (s .n) (s .mixed .now) (s .numbers .now) (s .keys .now) (s .l) (at .i) (at .inv .1) (c .before .before .before .before .before .entry-split .ensures .0) (c .before .before .put-entry .ensures),
     )
-
-same-length : tie.Need-same-length Inv-loop μ-loop
-same-length c = omega arith
 
 returns : tie.Need-returns Inv-loop μ-loop
 returns c =
@@ -96,21 +54,21 @@ put-entries-spec =
     Inv-loop
     μ-loop
     loop-holds
-    mul-from
-    mul-from-2
-    add-from
-    mul-from-3
-    add-from-2
-    add-to
+    (λ c. omega arith)
+    (λ c. omega arith)
+    (λ c. omega arith)
+    (λ c. omega arith)
+    (λ c. omega arith)
+    (λ c. omega arith)
     entry-split-requires
-    cast-put-entry
-    cast-put-entry-2
-    sub-put-entry
-    part-put-entry-start
-    part-put-entry-end
+    (λ c. omega arith)
+    (λ c. omega arith)
+    (λ c. omega arith)
+    (λ c. omega arith)
+    (λ c. omega arith)
     put-entry-requires
-    add-i
-    loop-less
+    (λ c. omega arith)
+    (λ c. omega arith)
     loop-again
-    same-length
+    (λ c. omega arith)
     returns)

@@ -17,9 +17,6 @@ Inv-loop out₀ at p ids rows mixed numbers keys lists next₀ l₀ out next l =
 abbrev μ-loop : tie.MeasureT-loop
 μ-loop out₀ at p ids rows mixed numbers keys lists next₀ l₀ out next l = 2 * p .compared - l
 
-mul-lists : tie.Need-mul-lists Inv-loop μ-loop
-mul-lists c = omega arith
-
 loop-holds : tie.Need-loop-holds Inv-loop μ-loop
 loop-holds c = (omega arith, start _ _ (omega arith))
 
@@ -38,12 +35,6 @@ put-entries-requires c κs =
       ),
     )
 
-add-l : tie.Need-add-l Inv-loop μ-loop
-add-l c = omega arith
-
-loop-less : tie.Need-loop-less Inv-loop μ-loop
-loop-less c = omega arith
-
 loop-again : tie.Need-loop-again Inv-loop μ-loop
 loop-again c =
     let s = c .before .before .before .before .before .before .before .before .before .before .before .before .before .args in
@@ -51,9 +42,6 @@ loop-again c =
       omega arith,
       go-turn (λ l. entriesIn (s .p .modulus) (s .p .ballots) (s .mixed .now) (s .numbers .now) (s .keys .now) l (s .p .ballots)) (at .l) (at .inv .1) (c .before .before .put-entries .ensures),
     )
-
-same-length : tie.Need-same-length Inv-loop μ-loop
-same-length c = omega arith
 
 returns : tie.Need-returns Inv-loop μ-loop
 returns c =
@@ -66,11 +54,11 @@ put-lists-spec =
     (tie.spec
     Inv-loop
     μ-loop
-    mul-lists
+    (λ c. omega arith)
     loop-holds
     put-entries-requires
-    add-l
-    loop-less
+    (λ c. omega arith)
+    (λ c. omega arith)
     loop-again
-    same-length
+    (λ c. omega arith)
     returns)

@@ -19,18 +19,6 @@ row-room n few = length-take-le (3 * n) (replicate 3072 0) (omega arith)
 list-room : (n m : ℕ) → n ≤ 1024 → m ≤ 12 → length {A = ℕ} (take (2 * m * (3 * n)) (replicate 73728 0)) ≡ 2 * m * (3 * n)
 list-room n m few lists = length-take-le (2 * m * (3 * n)) (replicate 73728 0) (all-fit n m few lists)
 
-mul-row-room : tie.Need-mul-row-room
-mul-row-room c = search needs
-
-mul-list-room : tie.Need-mul-list-room
-mul-list-room c = search needs
-
-mul-list-room-2 : tie.Need-mul-list-room-2
-mul-list-room-2 c = search needs
-
-array-borrow-prefix-rows : tie.Need-array-borrow-prefix-rows
-array-borrow-prefix-rows c = search needs
-
 slice-aggregate-write-in : tie.Need-slice-aggregate-write-in
 slice-aggregate-write-in c = sym (row-room (c .before .before .before .before .before .before .before .before .before .args .ballots) (c .before .before .before .before .before .before .before .before .before .pre .0 .tests .ballots-high))
 
@@ -46,23 +34,17 @@ write-in-requires c κs =
     let u = start .pre .0 .tests in
     (start .pre .0, (row-room (start .args .ballots) (u .ballots-high), (list-room (start .args .ballots) (start .args .compared) (u .ballots-high) (u .compared-high), start .pre .1)))
 
-same-length : tie.Need-same-length
-same-length c = search needs
-
-returns : tie.Need-returns
-returns c = search needs
-
 pub write-spec : {M : Type 1} → statement M
 write-spec =
     tie.close
     (tie.spec
-    mul-row-room
-    mul-list-room
-    mul-list-room-2
-    array-borrow-prefix-rows
+    (λ c. search needs)
+    (λ c. search needs)
+    (λ c. search needs)
+    (λ c. search needs)
     slice-aggregate-write-in
     array-borrow-prefix-mixed
     slice-aggregate-write-in-2
     write-in-requires
-    same-length
-    returns)
+    (λ c. search needs)
+    (λ c. search needs))

@@ -21,9 +21,6 @@ fill-rows-requires c κs =
     let u = start .pre .0 .tests in
     (ballots-given s u, omega (arith, start .pre .1 .0, u .votes-long))
 
-mul-lists : tie.Need-mul-lists
-mul-lists c = search needs
-
 mix-all-requires : tie.Need-mix-all-requires
 mix-all-requires c κs =
     let start = c .before .before .before .before .before .before .before .before .before .before .before .before .before .before .before in
@@ -39,15 +36,6 @@ write-rows-requires c κs =
     let rows = rows-are s u (length (s .votes)) (u .votes-long) (c .before .before .before .before .before .before .before .before .before .before .before .fill-rows .ensures) in
     (board-ready s u rows (mixed-is s u rows (c .before .before .before .before .before .mix-all .ensures)), start .pre .1 .1 .1)
 
-same-length : tie.Need-same-length
-same-length c = search needs
-
-same-length-2 : tie.Need-same-length-2
-same-length-2 c = search needs
-
-same-length-3 : tie.Need-same-length-3
-same-length-3 c = search needs
-
 returns : tie.Need-returns
 returns c =
     let start = c .before .before .before .before .before .before .before .before .before .before .before .before .before .before .before .before .before .before .before .before .before .before .before .before in
@@ -61,10 +49,10 @@ write-in-spec =
     tie.close
     (tie.spec
     fill-rows-requires
-    mul-lists
+    (λ c. search needs)
     mix-all-requires
     write-rows-requires
-    same-length
-    same-length-2
-    same-length-3
+    (λ c. search needs)
+    (λ c. search needs)
+    (λ c. search needs)
     returns)

@@ -48,9 +48,6 @@ put-lists-requires c κs =
       ),
     )
 
-same-length : tie.Need-same-length
-same-length c = search needs
-
 returns : tie.Need-returns
 returns c =
     let start = c .before .before .before .before .before .before .before .before .before .before .before .before .before .before .before .before .before .before in
@@ -61,4 +58,4 @@ returns c =
 pub write-rows-spec : {M : Type 1} → statement M
 write-rows-spec =
     tie.close
-    (tie.spec put-first-requires put-ballots-requires put-lists-requires same-length returns)
+    (tie.spec put-first-requires put-ballots-requires put-lists-requires (λ c. search needs) returns)

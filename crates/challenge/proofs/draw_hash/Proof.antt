@@ -14,17 +14,8 @@ use Rattle.challenge.proofs.Digits.{decimal-length, written}
 use Rattle.challenge.proofs.draw_hash.Statement.{statement}
 use Rattle.challenge.proofs.draw_hash.Tie as tie
 
-slice-aggregate-put-decimal : tie.Need-slice-aggregate-put-decimal
-slice-aggregate-put-decimal c = search needs
-
 put-decimal-requires : tie.Need-put-decimal-requires
 put-decimal-requires c κs = omega (arith, decimal-length (c .before .args .i))
-
-start-requires : tie.Need-start-requires
-start-requires c κs = search needs
-
-array-share-prefix-number : tie.Need-array-share-prefix-number
-array-share-prefix-number c = search needs
 
 slice-aggregate-absorb : tie.Need-slice-aggregate-absorb
 slice-aggregate-absorb c = let d = c .before .before .before .put-decimal .ensures in omega (arith, ap length (written d), d .to)
@@ -32,18 +23,6 @@ slice-aggregate-absorb c = let d = c .before .before .before .put-decimal .ensur
 absorb-requires : tie.Need-absorb-requires
 unfolding empty
 absorb-requires c κs = (search needs, rw (c .before .start .ensures) (omega arith))
-
-absorb-requires-2 : tie.Need-absorb-requires-2
-absorb-requires-2 c κs = search needs
-
-slice-aggregate-absorb-2 : tie.Need-slice-aggregate-absorb-2
-slice-aggregate-absorb-2 c = search needs
-
-absorb-requires-3 : tie.Need-absorb-requires-3
-absorb-requires-3 c κs = search needs
-
-finish-requires : tie.Need-finish-requires
-finish-requires c κs = search needs
 
 returns : tie.Need-returns
 unfolding drawHash sha3-224
@@ -64,14 +43,14 @@ pub draw-hash-spec : {M : Type 1} → statement M
 draw-hash-spec =
     tie.close
     (tie.spec
-    slice-aggregate-put-decimal
+    (λ c. search needs)
     put-decimal-requires
-    start-requires
-    array-share-prefix-number
+    (λ c κs. search needs)
+    (λ c. search needs)
     slice-aggregate-absorb
     absorb-requires
-    absorb-requires-2
-    slice-aggregate-absorb-2
-    absorb-requires-3
-    finish-requires
+    (λ c κs. search needs)
+    (λ c. search needs)
+    (λ c κs. search needs)
+    (λ c κs. search needs)
     returns)

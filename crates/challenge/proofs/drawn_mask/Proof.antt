@@ -14,24 +14,9 @@ Inv-loop q compared left₀ lists mask₀ i₀ left mask i =
 abbrev μ-loop : tie.MeasureT-loop
 μ-loop q compared left₀ lists mask₀ i₀ left mask i = lists - i
 
-cast-left : tie.Need-cast-left Inv-loop μ-loop
-cast-left c = omega arith
-
-mul-lists : tie.Need-mul-lists Inv-loop μ-loop
-mul-lists c = omega arith
-
 loop-holds : tie.Need-loop-holds Inv-loop μ-loop
 unfolding drawnMask
 loop-holds c = (omega arith, (omega arith, (omega arith, draw-start (listHash (c .args .q .now)) (2 * c .args .compared) (c .args .compared))))
-
-sub-list-chosen : tie.Need-sub-list-chosen Inv-loop μ-loop
-sub-list-chosen c = omega arith
-
-list-chosen-requires : tie.Need-list-chosen-requires Inv-loop μ-loop
-list-chosen-requires c κs = omega arith
-
-shl-mask : tie.Need-shl-mask Inv-loop μ-loop
-shl-mask c = omega arith
 
 add-mask : tie.Need-add-mask Inv-loop μ-loop
 add-mask c =
@@ -40,15 +25,6 @@ add-mask c =
     let e = shifted bit (l .i) (omega arith) (omega arith) in
     let m = mask-small (mask-more (l .mask) bit (l .i) (omega arith) (omega arith)) (omega arith) in
     omega arith
-
-sub-left : tie.Need-sub-left Inv-loop μ-loop
-sub-left c = omega arith
-
-add-i : tie.Need-add-i Inv-loop μ-loop
-add-i c = omega arith
-
-loop-less : tie.Need-loop-less Inv-loop μ-loop
-loop-less c = omega arith
 
 loop-again : tie.Need-loop-again Inv-loop μ-loop
 loop-again c =
@@ -85,15 +61,15 @@ drawn-mask-spec =
     (tie.spec
     Inv-loop
     μ-loop
-    cast-left
-    mul-lists
+    (λ c. omega arith)
+    (λ c. omega arith)
     loop-holds
-    sub-list-chosen
-    list-chosen-requires
-    shl-mask
+    (λ c. omega arith)
+    (λ c κs. omega arith)
+    (λ c. omega arith)
     add-mask
-    sub-left
-    add-i
-    loop-less
+    (λ c. omega arith)
+    (λ c. omega arith)
+    (λ c. omega arith)
     loop-again
     returns)

@@ -9,21 +9,6 @@ use Rattle.protocol.specs.Drawing.{drawnSide}
 use Rattle.challenge.proofs.drawn_side.Statement.{statement}
 use Rattle.challenge.proofs.drawn_side.Tie as tie
 
-add-draw-hash : tie.Need-add-draw-hash
-add-draw-hash c = search needs
-
-cast-draw-hash : tie.Need-cast-draw-hash
-cast-draw-hash c = search needs
-
-draw-hash-requires : tie.Need-draw-hash-requires
-draw-hash-requires c κs = search needs
-
-array-read-result : tie.Need-array-read-result
-array-read-result c = search needs
-
-cast-result : tie.Need-cast-result
-cast-result c = search needs
-
 returns : tie.Need-returns
 unfolding drawnSide
 returns c = (ap (λ (l : List ℕ). item l 27 % 2) (c .draw-hash .ensures), omega arith)
@@ -32,9 +17,9 @@ pub drawn-side-spec : {M : Type 1} → statement M
 drawn-side-spec =
     tie.close
     (tie.spec
-    add-draw-hash
-    cast-draw-hash
-    draw-hash-requires
-    array-read-result
-    cast-result
+    (λ c. search needs)
+    (λ c. search needs)
+    (λ c κs. search needs)
+    (λ c. search needs)
+    (λ c. search needs)
     returns)

@@ -9,17 +9,11 @@ use Rattle.challenge.proofs.Draws.{draw-length, list-hash, chosen}
 use Rattle.challenge.proofs.list_chosen.Statement.{statement}
 use Rattle.challenge.proofs.list_chosen.Tie as tie
 
-draw-hash-requires : tie.Need-draw-hash-requires
-draw-hash-requires c κs = search needs
-
 slice-aggregate-read8 : tie.Need-slice-aggregate-read8
 slice-aggregate-read8 c = omega (arith, ap length (c .before .draw-hash .ensures) ∙ draw-length _ _ _)
 
 read8-requires : tie.Need-read8-requires
 read8-requires c κs = omega (arith, ap length (c .before .draw-hash .ensures) ∙ draw-length _ _ _)
-
-rem-if1 : tie.Need-rem-if1
-rem-if1 c = search needs
 
 returns : tie.Need-returns
 returns c =
@@ -36,4 +30,4 @@ returns-2 c =
 pub list-chosen-spec : {M : Type 1} → statement M
 list-chosen-spec =
     tie.close
-    (tie.spec draw-hash-requires slice-aggregate-read8 read8-requires rem-if1 returns returns-2)
+    (tie.spec (λ c κs. search needs) slice-aggregate-read8 read8-requires (λ c. search needs) returns returns-2)

@@ -12,27 +12,6 @@ use Rattle.challenge.proofs.Digits.{hex-length}
 use Rattle.challenge.proofs.text.Statement.{statement}
 use Rattle.challenge.proofs.text.Tie as tie
 
-slice-aggregate-finish : tie.Need-slice-aggregate-finish
-slice-aggregate-finish c = search needs
-
-finish-requires : tie.Need-finish-requires
-finish-requires c κs = search needs
-
-slice-aggregate-copy : tie.Need-slice-aggregate-copy
-slice-aggregate-copy c = search needs
-
-copy-requires : tie.Need-copy-requires
-copy-requires c κs = search needs
-
-slice-aggregate-put-hex : tie.Need-slice-aggregate-put-hex
-slice-aggregate-put-hex c = search needs
-
-slice-aggregate-put-hex-2 : tie.Need-slice-aggregate-put-hex-2
-slice-aggregate-put-hex-2 c = search needs
-
-put-hex-requires : tie.Need-put-hex-requires
-put-hex-requires c κs = search needs
-
 returns : tie.Need-returns
 unfolding textFrom
 returns c =
@@ -49,11 +28,11 @@ pub text-spec : {M : Type 1} → statement M
 text-spec =
     tie.close
     (tie.spec
-    slice-aggregate-finish
-    finish-requires
-    slice-aggregate-copy
-    copy-requires
-    slice-aggregate-put-hex
-    slice-aggregate-put-hex-2
-    put-hex-requires
+    (λ c. search needs)
+    (λ c κs. search needs)
+    (λ c. search needs)
+    (λ c κs. search needs)
+    (λ c. search needs)
+    (λ c. search needs)
+    (λ c κs. search needs)
     returns)

@@ -9,18 +9,9 @@ use Rattle.challenge.specs.Text.{text-challenge, absorb-more}
 use Rattle.challenge.proofs.text_of.Statement.{statement}
 use Rattle.challenge.proofs.text_of.Tie as tie
 
-start-requires : tie.Need-start-requires
-start-requires c κs = search needs
-
 absorb-requires : tie.Need-absorb-requires
 unfolding empty
 absorb-requires c κs = (search needs, rw (c .start .ensures) (omega arith))
-
-absorb-requires-2 : tie.Need-absorb-requires-2
-absorb-requires-2 c κs = search needs
-
-text-requires : tie.Need-text-requires
-text-requires c κs = search needs
 
 returns : tie.Need-returns
 returns c =
@@ -33,4 +24,4 @@ returns c =
 
 pub text-of-spec : {M : Type 1} → statement M
 text-of-spec =
-    tie.close (tie.spec start-requires absorb-requires absorb-requires-2 text-requires returns)
+    tie.close (tie.spec (λ c κs. search needs) absorb-requires (λ c κs. search needs) (λ c κs. search needs) returns)

@@ -22,22 +22,10 @@ loop-holds c = (omega arith, row-start _)
 half-faults-requires : tie.Need-half-faults-requires Inv-loop μ-loop
 half-faults-requires c κs = (c .before .before .before .pre, c .loop-test .taken)
 
-enum-told : tie.Need-enum-told Inv-loop μ-loop
-enum-told c = search needs
-
-enum-told-2 : tie.Need-enum-told-2 Inv-loop μ-loop
-enum-told-2 c = search needs
-
 returns : tie.Need-returns Inv-loop μ-loop
 returns c =
     let g = c .before .before .before .before in
     row-stop _ _ (g .loop .j) (omega arith) (g .loop .inv .1) (c .before .before .half-faults .ensures) (c .enum-told2 .given .1)
-
-add-j : tie.Need-add-j Inv-loop μ-loop
-add-j c = omega arith
-
-loop-less : tie.Need-loop-less Inv-loop μ-loop
-loop-less c = omega arith
 
 loop-again : tie.Need-loop-again Inv-loop μ-loop
 loop-again c =
@@ -55,10 +43,10 @@ all-half-faults-spec =
     μ-loop
     loop-holds
     half-faults-requires
-    enum-told
-    enum-told-2
+    (λ c. search needs)
+    (λ c. search needs)
     returns
-    add-j
-    loop-less
+    (λ c. omega arith)
+    (λ c. omega arith)
     loop-again
     returns-2)

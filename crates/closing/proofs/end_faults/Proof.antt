@@ -7,20 +7,8 @@ use Rattle.closing.proofs.Ending.{trailing-stop, trailing-pass}
 use Rattle.closing.proofs.end_faults.Statement.{statement}
 use Rattle.closing.proofs.end_faults.Tie as tie
 
-at-end-requires : tie.Need-at-end-requires
-at-end-requires c κs = search needs
-
-step-requires : tie.Need-step-requires
-step-requires c κs = search needs
-
 returns : tie.Need-returns
 returns c = then-fault _ _ (found-fault _ _ _ _ (c .before .before .at-end .ensures .0) (c .before .step .ensures) (c .if1 .taken)) refl
-
-add-if2 : tie.Need-add-if2
-add-if2 c = search needs
-
-add-t13 : tie.Need-add-t13
-add-t13 c = search needs
 
 returns-2 : tie.Need-returns-2
 returns-2 c = then-rest _ _ (found-none _ _ _ _ (c .before .before .step .ensures) (c .before .if1 .left)) (trailing-stop _ _ (c .before .before .before .at-end .ensures .0) (c .if2 .taken))
@@ -32,10 +20,10 @@ pub end-faults-spec : {M : Type 1} → statement M
 end-faults-spec =
     tie.close
     (tie.spec
-    at-end-requires
-    step-requires
+    (λ c κs. search needs)
+    (λ c κs. search needs)
     returns
-    add-if2
-    add-t13
+    (λ c. search needs)
+    (λ c. search needs)
     returns-2
     returns-3)

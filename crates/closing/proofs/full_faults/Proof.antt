@@ -48,12 +48,6 @@ returns c =
     let g = c .before .before .before .before in
     row-stop _ _ (g .loop .i) (omega arith) (g .loop .inv .1) (found-fault _ _ _ _ (place (c .before .before)) (c .before .step .ensures) (c .if1 .taken)) refl
 
-add-i : tie.Need-add-i Inv-loop μ-loop
-add-i c = omega arith
-
-loop-less : tie.Need-loop-less Inv-loop μ-loop
-loop-less c = omega arith
-
 loop-again : tie.Need-loop-again Inv-loop μ-loop
 loop-again c =
     let g = c .before .before .before .before in
@@ -73,7 +67,7 @@ full-faults-spec =
     at-full-opening-requires
     step-requires
     returns
-    add-i
-    loop-less
+    (λ c. omega arith)
+    (λ c. omega arith)
     loop-again
     returns-2)

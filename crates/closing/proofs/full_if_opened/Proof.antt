@@ -6,17 +6,8 @@ use Rattle.stages.proofs.Known.{bit-is, bit-not, bit-zero}
 use Rattle.closing.proofs.full_if_opened.Statement.{statement}
 use Rattle.closing.proofs.full_if_opened.Tie as tie
 
-cast-if1 : tie.Need-cast-if1
-cast-if1 c = search needs
-
-shr-if1 : tie.Need-shr-if1
-shr-if1 c = search needs
-
 returns : tie.Need-returns
 returns c = let s = c .before .before in opened-pass _ _ _ _ (λ z. omega (arith, bit-is (s .args .l) (s .pre .1) (c .if1 .taken)))
-
-full-faults-requires : tie.Need-full-faults-requires
-full-faults-requires c κs = search needs
 
 returns-2 : tie.Need-returns-2
 returns-2 c = let s = c .before .before .before in opened-go _ _ _ _ (bit-zero _ (s .args .l) (bit-not (s .args .l) (s .pre .1) (c .before .if1 .left))) (c .full-faults .ensures)
@@ -25,8 +16,8 @@ pub full-if-opened-spec : {M : Type 1} → statement M
 full-if-opened-spec =
     tie.close
     (tie.spec
-    cast-if1
-    shr-if1
+    (λ c. search needs)
+    (λ c. search needs)
     returns
-    full-faults-requires
+    (λ c κs. search needs)
     returns-2)

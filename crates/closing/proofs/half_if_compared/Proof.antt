@@ -12,12 +12,6 @@ use Rattle.closing.proofs.Known.{half-known}
 use Rattle.closing.proofs.half_if_compared.Statement.{statement}
 use Rattle.closing.proofs.half_if_compared.Tie as tie
 
-cast-if1 : tie.Need-cast-if1
-cast-if1 c = search needs
-
-shr-if1 : tie.Need-shr-if1
-shr-if1 c = search needs
-
 returns : tie.Need-returns
 returns c = let s = c .before .before in compared-pass _ _ _ _ (bit-is (s .args .l) (s .pre .0 .mask-is) (c .if1 .taken))
 
@@ -46,8 +40,8 @@ pub half-if-compared-spec : {M : Type 1} → statement M
 half-if-compared-spec =
     tie.close
     (tie.spec
-    cast-if1
-    shr-if1
+    (λ c. search needs)
+    (λ c. search needs)
     returns
     at-list-half-requires
     step-requires

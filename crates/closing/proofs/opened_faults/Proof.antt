@@ -28,12 +28,6 @@ loop-holds c = (omega arith, row-start _, refl)
 full-if-opened-requires : tie.Need-full-if-opened-requires Inv-loop μ-loop
 full-if-opened-requires c κs = (c .before .before .before .before .pre .0, c .before .before .before .before .pre .1, omega arith, c .before .loop .inv .2, omega (arith, clear-few (maskOf (c .before .before .before .before .args .p) (c .before .before .before .before .args .bytes .now)) (c .before .loop .l)))
 
-enum-told : tie.Need-enum-told Inv-loop μ-loop
-enum-told c = search needs
-
-enum-told-2 : tie.Need-enum-told-2 Inv-loop μ-loop
-enum-told-2 c = search needs
-
 returns : tie.Need-returns Inv-loop μ-loop
 returns c =
     let g = c .before .before .before .before in
@@ -44,23 +38,11 @@ add-rank c =
     let g = c .before .before .before .before in
     omega (arith, clear-few (maskOf (c .before .before .before .before .before .before .before .args .p) (c .before .before .before .before .before .before .before .args .bytes .now)) (g .loop .l))
 
-cast-rank : tie.Need-cast-rank Inv-loop μ-loop
-cast-rank c = omega arith
-
-shr-rank : tie.Need-shr-rank Inv-loop μ-loop
-shr-rank c = omega arith
-
 cast-rank-2 : tie.Need-cast-rank-2 Inv-loop μ-loop
 cast-rank-2 c = omega (arith, bit-small (c .before .before .before .before .before .before .before .args .mask) (c .before .before .before .before .loop .l))
 
 sub-rank : tie.Need-sub-rank Inv-loop μ-loop
 sub-rank c = omega (arith, bit-small (c .before .before .before .before .before .before .before .args .mask) (c .before .before .before .before .loop .l))
-
-add-l : tie.Need-add-l Inv-loop μ-loop
-add-l c = omega arith
-
-loop-less : tie.Need-loop-less Inv-loop μ-loop
-loop-less c = omega arith
 
 loop-again : tie.Need-loop-again Inv-loop μ-loop
 loop-again c =
@@ -79,15 +61,15 @@ opened-faults-spec =
     lists-requires
     loop-holds
     full-if-opened-requires
-    enum-told
-    enum-told-2
+    (λ c. search needs)
+    (λ c. search needs)
     returns
     add-rank
-    cast-rank
-    shr-rank
+    (λ c. omega arith)
+    (λ c. omega arith)
     cast-rank-2
     sub-rank
-    add-l
-    loop-less
+    (λ c. omega arith)
+    (λ c. omega arith)
     loop-again
     returns-2)

@@ -10,29 +10,14 @@ use Rattle.stages.proofs.Known.{stands-whole, text-at, mask-read}
 use Rattle.closing.proofs.part_three_faults.Statement.{statement}
 use Rattle.closing.proofs.part_three_faults.Tie as tie
 
-at-second-dice-requires : tie.Need-at-second-dice-requires
-at-second-dice-requires c κs = search needs
-
-step-requires : tie.Need-step-requires
-step-requires c κs = search needs
-
 returns : tie.Need-returns
 unfolding partThreeFaults
 returns c = then-fault _ _ (found-fault _ _ _ _ (c .before .before .at-second-dice .ensures .0) (c .before .step .ensures) (c .if1 .taken)) refl
-
-at-first-dice-requires : tie.Need-at-first-dice-requires
-at-first-dice-requires c κs = search needs
-
-add-read4 : tie.Need-add-read4
-add-read4 c = search needs
 
 read4-requires : tie.Need-read4-requires
 read4-requires c κs =
     let s = c .before .before .before .before .before in
     omega (arith, stands-whole (s .args .drawn) (s .args .p) (s .args .bytes .now) FirstDice (s .pre .dice .first-dice), c .at-first-dice .ensures .0)
-
-dice-text-requires : tie.Need-dice-text-requires
-dice-text-requires c κs = search needs
 
 -- the mask that is read is the record's
 mask : (c : tie.After-read4) → (let s = c .before .before .before .before .before .before .args in c .read4 .result ≡ maskOf (s .p) (s .bytes .now))
@@ -50,12 +35,6 @@ all-half-faults-requires c κs =
       links = s .pre .links;
       text-is = λ d. text-at r (c .before .before .before .before .before .before .at-second-dice .ensures .0) (c .before .dice-text .ensures) d whole (s .pre .prefix-is d);
     }
-
-enum-told : tie.Need-enum-told
-enum-told c = search needs
-
-enum-told-2 : tie.Need-enum-told-2
-enum-told-2 c = search needs
 
 returns-2 : tie.Need-returns-2
 unfolding partThreeFaults
@@ -76,16 +55,16 @@ pub part-three-faults-spec : {M : Type 1} → statement M
 part-three-faults-spec =
     tie.close
     (tie.spec
-    at-second-dice-requires
-    step-requires
+    (λ c κs. search needs)
+    (λ c κs. search needs)
     returns
-    at-first-dice-requires
-    add-read4
+    (λ c κs. search needs)
+    (λ c. search needs)
     read4-requires
-    dice-text-requires
+    (λ c κs. search needs)
     all-half-faults-requires
-    enum-told
-    enum-told-2
+    (λ c. search needs)
+    (λ c. search needs)
     returns-2
     closing-faults-requires
     returns-3)

@@ -12,42 +12,9 @@ use Rattle.protocol.specs.Terms.{opening, commitment}
 use Rattle.commitment.proofs.put_commitment.Statement.{statement}
 use Rattle.commitment.proofs.put_commitment.Tie as tie
 
-slice-aggregate-put4 : tie.Need-slice-aggregate-put4
-slice-aggregate-put4 c = search needs
-
-put4-requires : tie.Need-put4-requires
-put4-requires c κs = search needs
-
-start-requires : tie.Need-start-requires
-start-requires c κs = search needs
-
 absorb-requires : tie.Need-absorb-requires
 unfolding empty
 absorb-requires c κs = (search needs, rw (c .start .ensures) (omega arith))
-
-slice-aggregate-absorb : tie.Need-slice-aggregate-absorb
-slice-aggregate-absorb c = search needs
-
-absorb-requires-2 : tie.Need-absorb-requires-2
-absorb-requires-2 c κs = search needs
-
-add-end : tie.Need-add-end
-add-end c = search needs
-
-sub-finish : tie.Need-sub-finish
-sub-finish c = search needs
-
-part-finish-start : tie.Need-part-finish-start
-part-finish-start c = search needs
-
-part-finish-end : tie.Need-part-finish-end
-part-finish-end c = search needs
-
-finish-requires : tie.Need-finish-requires
-finish-requires c κs = search needs
-
-same-length : tie.Need-same-length
-same-length c = search needs
 
 returns : tie.Need-returns
 unfolding commitment opening sha3-256
@@ -71,16 +38,16 @@ pub put-commitment-spec : {M : Type 1} → statement M
 put-commitment-spec =
     tie.close
     (tie.spec
-    slice-aggregate-put4
-    put4-requires
-    start-requires
+    (λ c. search needs)
+    (λ c κs. search needs)
+    (λ c κs. search needs)
     absorb-requires
-    slice-aggregate-absorb
-    absorb-requires-2
-    add-end
-    sub-finish
-    part-finish-start
-    part-finish-end
-    finish-requires
-    same-length
+    (λ c. search needs)
+    (λ c κs. search needs)
+    (λ c. search needs)
+    (λ c. search needs)
+    (λ c. search needs)
+    (λ c. search needs)
+    (λ c κs. search needs)
+    (λ c. search needs)
     returns)

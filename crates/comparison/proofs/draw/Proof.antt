@@ -4,9 +4,6 @@ use Rattle.comparison.proofs.Unrefused.{draw-ready, draw-refused, draw-
 use Rattle.comparison.proofs.draw.Statement.{statement}
 use Rattle.comparison.proofs.draw.Tie as tie
 
-draw-requires : tie.Need-draw-requires
-draw-requires c κs = search needs
-
 returns : tie.Need-returns
 returns c = draw-refused _ _ _ _ (c .before .draw .ensures) (c .if1 .taken)
 
@@ -17,4 +14,4 @@ returns-2 : tie.Need-returns-2
 returns-2 c = draw-done _ _ _ _ _ (c .before .before .draw .ensures) (c .before .if1 .left) (c .mask-of .ensures)
 
 pub draw-spec : {M : Type 1} → statement M
-draw-spec = tie.close (tie.spec draw-requires returns mask-of-requires returns-2)
+draw-spec = tie.close (tie.spec (λ c κs. search needs) returns mask-of-requires returns-2)

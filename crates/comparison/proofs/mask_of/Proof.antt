@@ -6,15 +6,6 @@ use Rattle.protocol.specs.Drawing.{challenge, drawnMask}
 use Rattle.comparison.proofs.mask_of.Statement.{statement}
 use Rattle.comparison.proofs.mask_of.Tie as tie
 
-slice-aggregate-text-of : tie.Need-slice-aggregate-text-of
-slice-aggregate-text-of c = search needs
-
-text-of-requires : tie.Need-text-of-requires
-text-of-requires c κs = search needs
-
-drawn-mask-requires : tie.Need-drawn-mask-requires
-drawn-mask-requires c κs = search needs
-
 returns : tie.Need-returns
 returns c =
     let s = c .before .before .before .before .before .before .args in
@@ -22,4 +13,4 @@ returns c =
 
 pub mask-of-spec : {M : Type 1} → statement M
 mask-of-spec =
-    tie.close (tie.spec slice-aggregate-text-of text-of-requires drawn-mask-requires returns)
+    tie.close (tie.spec (λ c. search needs) (λ c κs. search needs) (λ c κs. search needs) returns)

@@ -5,20 +5,14 @@ use Rattle.comparison.proofs.Unrefused.{mask-given}
 use Rattle.comparison.proofs.part_two.Statement.{statement}
 use Rattle.comparison.proofs.part_two.Tie as tie
 
-part-two-requires : tie.Need-part-two-requires
-part-two-requires c κs = search needs
-
 returns : tie.Need-returns
 returns c = refused _ _ _ _ (c .before .part-two .ensures) (c .if1 .taken)
 
 write-requires : tie.Need-write-requires
 write-requires c κs = mask-given _ _ _ _ (c .before .before .part-two .ensures) (c .before .if1 .left)
 
-same-length : tie.Need-same-length
-same-length c = search needs
-
 returns-2 : tie.Need-returns-2
 returns-2 c = done _ _ _ _ _ (c .before .before .before .before .before .part-two .ensures) (c .before .before .before .before .if1 .left) (c .before .before .write .ensures)
 
 pub part-two-spec : {M : Type 1} → statement M
-part-two-spec = tie.close (tie.spec part-two-requires returns write-requires same-length returns-2)
+part-two-spec = tie.close (tie.spec (λ c κs. search needs) returns write-requires (λ c. search needs) returns-2)

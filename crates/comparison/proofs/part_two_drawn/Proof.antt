@@ -8,9 +8,6 @@ use Rattle.comparison.proofs.Unrefused.{mask-drawn}
 use Rattle.comparison.proofs.part_two_drawn.Statement.{statement}
 use Rattle.comparison.proofs.part_two_drawn.Tie as tie
 
-part-two-drawn-requires : tie.Need-part-two-drawn-requires
-part-two-drawn-requires c κs = search needs
-
 returns : tie.Need-returns
 returns c = refused _ _ _ _ (c .before .part-two-drawn .ensures) (c .if1 .taken)
 
@@ -22,9 +19,6 @@ mask-of-requires c κs =
 write-requires : tie.Need-write-requires
 write-requires c κs = mask-drawn _ _ _ _ _ _ (c .before .before .before .part-two-drawn .ensures) (c .before .before .if1 .left) (c .before .mask-of .ensures)
 
-same-length : tie.Need-same-length
-same-length c = search needs
-
 returns-2 : tie.Need-returns-2
 unfolding maskFor
 returns-2 c =
@@ -35,9 +29,9 @@ pub part-two-drawn-spec : {M : Type 1} → statement M
 part-two-drawn-spec =
     tie.close
     (tie.spec
-    part-two-drawn-requires
+    (λ c κs. search needs)
     returns
     mask-of-requires
     write-requires
-    same-length
+    (λ c. search needs)
     returns-2)

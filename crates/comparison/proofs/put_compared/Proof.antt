@@ -15,9 +15,6 @@ Inv-loop out₀ at p mask positions numbers lists next₀ l₀ out next l = (l �
 abbrev μ-loop : tie.MeasureT-loop
 μ-loop out₀ at p mask positions numbers lists next₀ l₀ out next l = lists - l
 
-mul-lists : tie.Need-mul-lists Inv-loop μ-loop
-mul-lists c = search needs
-
 loop-holds : tie.Need-loop-holds Inv-loop μ-loop
 loop-holds c = (omega arith, start _ _ (omega arith))
 
@@ -31,20 +28,11 @@ put-if-compared-requires c κs =
       (list-places (s .p) (s .mask) (s .positions .now) (s .numbers .now) ready here, list-room (s .p) (s .mask) (s .positions .now) (s .numbers .now) ready here (c .before .before .loop .inv .1) (start .pre .1)),
     )
 
-add-l : tie.Need-add-l Inv-loop μ-loop
-add-l c = search needs
-
-loop-less : tie.Need-loop-less Inv-loop μ-loop
-loop-less c = search needs
-
 loop-again : tie.Need-loop-again Inv-loop μ-loop
 loop-again c =
     let g = c .before .before .before .before .before in
     let s = c .before .before .before .before .before .before .before .before .before .before .args in
     (omega arith, go-turn (comparedLinks (s .p) (s .mask) (s .positions .now) (s .numbers .now)) (g .loop .l) (g .loop .inv .1) (c .before .before .put-if-compared .ensures))
-
-same-length : tie.Need-same-length Inv-loop μ-loop
-same-length c = search needs
 
 returns : tie.Need-returns Inv-loop μ-loop
 returns c =
@@ -57,11 +45,11 @@ put-compared-spec =
     (tie.spec
     Inv-loop
     μ-loop
-    mul-lists
+    (λ c. search needs)
     loop-holds
     put-if-compared-requires
-    add-l
-    loop-less
+    (λ c. search needs)
+    (λ c. search needs)
     loop-again
-    same-length
+    (λ c. search needs)
     returns)

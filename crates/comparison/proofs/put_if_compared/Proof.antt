@@ -10,12 +10,6 @@ use Rattle.comparison.specs.Links.{linksIn}
 use Rattle.comparison.proofs.put_if_compared.Statement.{statement}
 use Rattle.comparison.proofs.put_if_compared.Tie as tie
 
-cast-if1 : tie.Need-cast-if1
-cast-if1 c = search needs
-
-shr-if1 : tie.Need-shr-if1
-shr-if1 c = search needs
-
 returns : tie.Need-returns
 returns c =
     let s = c .before .before .before .before .args in
@@ -28,9 +22,6 @@ put-links-requires c κs =
     let set : bit (s .mask) (s .l) ≡ 1 = omega (arith, bit-small (s .mask) (s .l), c .before .if1 .left) in
     (start .pre .0, (start .pre .1 .0, omega (arith, rw set at (start .pre .1 .1))))
 
-same-length : tie.Need-same-length
-same-length c = search needs
-
 returns-2 : tie.Need-returns-2
 returns-2 c =
     let s = c .before .before .before .before .before .before .before .before .args in
@@ -39,4 +30,4 @@ returns-2 c =
 
 pub put-if-compared-spec : {M : Type 1} → statement M
 put-if-compared-spec =
-    tie.close (tie.spec cast-if1 shr-if1 returns put-links-requires same-length returns-2)
+    tie.close (tie.spec (λ c. search needs) (λ c. search needs) returns put-links-requires (λ c. search needs) returns-2)

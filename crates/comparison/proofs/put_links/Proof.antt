@@ -22,18 +22,6 @@ abbrev μ-loop : tie.MeasureT-loop
 loop-holds : tie.Need-loop-holds Inv-loop μ-loop
 loop-holds c = (omega arith, start _ _ (omega arith))
 
-mul-place : tie.Need-mul-place Inv-loop μ-loop
-mul-place c = search needs
-
-add-place : tie.Need-add-place Inv-loop μ-loop
-add-place c = search needs
-
-mul-place-2 : tie.Need-mul-place-2 Inv-loop μ-loop
-mul-place-2 c = search needs
-
-shared-slice-read-place : tie.Need-shared-slice-read-place Inv-loop μ-loop
-shared-slice-read-place c = search needs
-
 cast-shift : tie.Need-cast-shift Inv-loop μ-loop
 cast-shift c =
     let start = c .before .before .before .before .before .before in
@@ -45,24 +33,12 @@ shift-requires c κs =
     let inside = start .pre .1 .0 .inside (c .before .before .loop .j) (omega arith) in
     (start .pre .0, (omega arith, omega arith))
 
-cast-put-link : tie.Need-cast-put-link Inv-loop μ-loop
-cast-put-link c = search needs
-
-cast-put-link-2 : tie.Need-cast-put-link-2 Inv-loop μ-loop
-cast-put-link-2 c = search needs
-
 put-link-requires : tie.Need-put-link-requires Inv-loop μ-loop
 put-link-requires c κs =
     let g = c .before .before .before .before in
     let start = c .before .before .before .before .before .before .before .before in
     let s = start .args in
     room-even (link (s .modulus) (s .n) (s .positions .now) (s .numbers .now) (s .l)) 10 (g .loop .j) (s .n) (λ i li. length-link _ _ _ _) (g .loop .inv .1) (start .pre .1 .1) (omega arith)
-
-add-j : tie.Need-add-j Inv-loop μ-loop
-add-j c = search needs
-
-loop-less : tie.Need-loop-less Inv-loop μ-loop
-loop-less c = search needs
 
 loop-again : tie.Need-loop-again Inv-loop μ-loop
 loop-again c =
@@ -73,9 +49,6 @@ loop-again c =
       go-turn (link (s .modulus) (s .n) (s .positions .now) (s .numbers .now) (s .l)) j (g .loop .inv .1)
           (go-same (c .before .before .put-link .ensures) (ap (linkCommand (s .l) j (item (s .positions .now) (s .l * s .n + j))) (c .before .before .before .before .shift .ensures .0))),
     )
-
-same-length : tie.Need-same-length Inv-loop μ-loop
-same-length c = search needs
 
 returns : tie.Need-returns Inv-loop μ-loop
 returns c =
@@ -89,17 +62,17 @@ put-links-spec =
     Inv-loop
     μ-loop
     loop-holds
-    mul-place
-    add-place
-    mul-place-2
-    shared-slice-read-place
+    (λ c. search needs)
+    (λ c. search needs)
+    (λ c. search needs)
+    (λ c. search needs)
     cast-shift
     shift-requires
-    cast-put-link
-    cast-put-link-2
+    (λ c. search needs)
+    (λ c. search needs)
     put-link-requires
-    add-j
-    loop-less
+    (λ c. search needs)
+    (λ c. search needs)
     loop-again
-    same-length
+    (λ c. search needs)
     returns)

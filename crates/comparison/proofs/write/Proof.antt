@@ -46,12 +46,6 @@ placed c =
 within : (v w : List ℕ) (k : ℕ) → length v ≡ k → k ≤ length (v ++ w)
 within v w k e = omega (arith, length-append v w)
 
-mul-lists : tie.Need-mul-lists
-mul-lists c = search needs
-
-mul-room : tie.Need-mul-room
-mul-room c = search needs
-
 array-borrow-prefix-positions : tie.Need-array-borrow-prefix-positions
 array-borrow-prefix-positions c = fits (c .before .before .before .before .before .before .before .before)
 
@@ -76,9 +70,6 @@ write-places-requires c κs =
     let s = start (c .before .before .before) in
     (two-ready (slices s) (s .args .dice .now) (s .args .mask) (length (s .args .out .now)) (s .pre) (places (c .before .before .before)) (placed (c .before .before .before)), (s .pre .dice-long, s .pre .out-long))
 
-same-length : tie.Need-same-length
-same-length c = search needs
-
 returns : tie.Need-returns
 returns c =
     let at = c .before .before .before .before .before .before in
@@ -90,13 +81,13 @@ pub write-spec : {M : Type 1} → statement M
 write-spec =
     tie.close
     (tie.spec
-    mul-lists
-    mul-room
+    (λ c. search needs)
+    (λ c. search needs)
     array-borrow-prefix-positions
     slice-aggregate-place-all
     place-all-requires
     array-share-prefix-positions
     slice-aggregate-write-places
     write-places-requires
-    same-length
+    (λ c. search needs)
     returns)

@@ -11,16 +11,10 @@ use Rattle.comparison.proofs.Compared.{comparedLinks, compared-length}
 use Rattle.comparison.proofs.write_places.Statement.{statement}
 use Rattle.comparison.proofs.write_places.Tie as tie
 
-put-first-dice-requires : tie.Need-put-first-dice-requires
-put-first-dice-requires c κs = search needs
-
 put-compared-requires : tie.Need-put-compared-requires
 put-compared-requires c κs =
     let start = c .before .before .before .before .before .before .before .before .before in
     (start .pre .0, omega (arith, length-first-dice (start .args .dice .now) (start .args .mask) (start .pre .1 .0), start .pre .1 .1, c .before .before .before .put-first-dice .ensures .to, c .before .before .before .put-first-dice .ensures .wrote .long))
-
-same-length : tie.Need-same-length
-same-length c = search needs
 
 returns : tie.Need-returns
 returns c =
@@ -37,4 +31,4 @@ returns c =
 
 pub write-places-spec : {M : Type 1} → statement M
 write-places-spec =
-    tie.close (tie.spec put-first-dice-requires put-compared-requires same-length returns)
+    tie.close (tie.spec (λ c κs. search needs) put-compared-requires (λ c. search needs) returns)

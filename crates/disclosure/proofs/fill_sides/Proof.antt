@@ -16,34 +16,13 @@ Inv-loop dice one two out₀ text j₀ out j = (j ≤ length out₀) × Filled (
 abbrev μ-loop : tie.MeasureT-loop
 μ-loop dice one two out₀ text j₀ out j = length out₀ - j
 
-text-of-requires : tie.Need-text-of-requires Inv-loop μ-loop
-text-of-requires c κs = search needs
-
 loop-holds : tie.Need-loop-holds Inv-loop μ-loop
 loop-holds c = (omega arith, none-filled _ _)
-
-drawn-side-requires : tie.Need-drawn-side-requires Inv-loop μ-loop
-drawn-side-requires c κs = omega arith
-
-cast-out : tie.Need-cast-out Inv-loop μ-loop
-cast-out c = omega arith
-
-slice-write-out : tie.Need-slice-write-out Inv-loop μ-loop
-slice-write-out c = omega arith
-
-add-j : tie.Need-add-j Inv-loop μ-loop
-add-j c = omega arith
-
-loop-less : tie.Need-loop-less Inv-loop μ-loop
-loop-less c = omega arith
 
 loop-again : tie.Need-loop-again Inv-loop μ-loop
 loop-again c =
     let g = c .before .before .before .loop in
     (omega arith, one-filled _ (g .inv .1) (omega arith) (c .drawn-side .ensures .0))
-
-same-length : tie.Need-same-length Inv-loop μ-loop
-same-length c = omega arith
 
 returns : tie.Need-returns Inv-loop μ-loop
 unfolding drawnSides
@@ -58,13 +37,13 @@ fill-sides-spec =
     (tie.spec
     Inv-loop
     μ-loop
-    text-of-requires
+    (λ c κs. search needs)
     loop-holds
-    drawn-side-requires
-    cast-out
-    slice-write-out
-    add-j
-    loop-less
+    (λ c κs. omega arith)
+    (λ c. omega arith)
+    (λ c. omega arith)
+    (λ c. omega arith)
+    (λ c. omega arith)
     loop-again
-    same-length
+    (λ c. omega arith)
     returns)

@@ -5,21 +5,15 @@ use borrow.Author.Needs.{needs}
 use Rattle.disclosure.proofs.part_three.Statement.{statement}
 use Rattle.disclosure.proofs.part_three.Tie as tie
 
-part-three-requires : tie.Need-part-three-requires
-part-three-requires c κs = search needs
-
 returns : tie.Need-returns
 returns c = refused _ _ _ _ (c .before .part-three .ensures) (c .if1 .taken)
 
 write-requires : tie.Need-write-requires
 write-requires c κs = sides-given _ _ _ _ _ (c .before .before .part-three .ensures) (c .before .if1 .left)
 
-same-length : tie.Need-same-length
-same-length c = search needs
-
 returns-2 : tie.Need-returns-2
 returns-2 c = done _ _ _ _ _ (c .before .before .before .before .before .part-three .ensures) (c .before .before .before .before .if1 .left) (c .before .before .write .ensures)
 
 pub part-three-spec : {M : Type 1} → statement M
 part-three-spec =
-    tie.close (tie.spec part-three-requires returns write-requires same-length returns-2)
+    tie.close (tie.spec (λ c κs. search needs) returns write-requires (λ c. search needs) returns-2)

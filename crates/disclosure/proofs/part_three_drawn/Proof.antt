@@ -28,9 +28,6 @@ filled v n q few e = e ∙ ap (λ (k : ℕ). drawnSides k q) (part n few)
 long : (v : List ℕ) (n : ℕ) (q : List ℕ) → v ≡ drawnSides n q → length v ≡ n
 long v n q e = ap length e ∙ length-drawn n q
 
-part-three-drawn-requires : tie.Need-part-three-drawn-requires
-part-three-drawn-requires c κs = search needs
-
 returns : tie.Need-returns
 returns c = refused _ _ _ _ (c .before .part-three-drawn .ensures) (c .if1 .taken)
 
@@ -83,9 +80,6 @@ write-requires c κs =
     let drawn : v ≡ drawnSides n (challenge (s .args .dice .now) (s .args .one .now ++ s .args .two .now)) = filled v n _ few (c .before .before .before .fill-sides .ensures) in
     sides-drawn _ _ _ _ _ _ _ _ (c .before .before .before .before .before .before .part-three-drawn .ensures) (c .before .before .before .before .before .if1 .left) (take-at v (drop n zeros) n (long v n _ drawn) ∙ drawn)
 
-same-length : tie.Need-same-length
-same-length c = search needs
-
 returns-2 : tie.Need-returns-2
 unfolding sidesFor
 returns-2 c =
@@ -102,7 +96,7 @@ pub part-three-drawn-spec : {M : Type 1} → statement M
 part-three-drawn-spec =
     tie.close
     (tie.spec
-    part-three-drawn-requires
+    (λ c κs. search needs)
     returns
     array-borrow-prefix-sides
     slice-aggregate-fill-sides
@@ -110,5 +104,5 @@ part-three-drawn-spec =
     array-share-prefix-sides
     slice-aggregate-write
     write-requires
-    same-length
+    (λ c. search needs)
     returns-2)

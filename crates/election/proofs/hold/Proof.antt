@@ -14,52 +14,13 @@ tested c = c .before .before .before .before .before .before .before .before .be
 ids-fit : (c : tie.Else1) → Below 4294967296 (c .before .before .before .before .before .before .before .before .before .before .before .before .before .before .args .ids .now)
 ids-fit c i l = omega (arith, c .before .before .before .before .before .before .before .before .before .before .before .before .before .shared-slice-known .given i)
 
-refuse-requires : tie.Need-refuse-requires
-refuse-requires c κs = search needs
-
 returns : tie.Need-returns
 returns c = refused _ _ _ _ _ _ _ _ _ _ _ _ _ _ _ _ (c .before .refuse .ensures) (c .if1 .taken)
-
-write-requires : tie.Need-write-requires
-write-requires c κs = search needs
-
-judge-plainly-requires : tie.Need-judge-plainly-requires
-judge-plainly-requires c κs = search needs
-
-enum-told : tie.Need-enum-told
-enum-told c = search needs
-
-enum-known-broken : tie.Need-enum-known-broken
-enum-known-broken c = search needs
-
-same-length : tie.Need-same-length
-same-length c = search needs
-
-same-length-2 : tie.Need-same-length-2
-same-length-2 c = search needs
-
-same-length-3 : tie.Need-same-length-3
-same-length-3 c = search needs
-
-same-length-4 : tie.Need-same-length-4
-same-length-4 c = search needs
 
 returns-2 : tie.Need-returns-2
 returns-2 c =
     accepted _ _ _ _ _ _ _ _ _ _ _ (tested (c .before .before) .before .refuse .ensures) (tested (c .before .before) .if1 .left) (ids-fit (tested (c .before .before))) _ _ _ _
     (c .before .before .before .before .before .before .before .before .before .before .before .before .write .ensures)
-
-same-length-5 : tie.Need-same-length-5
-same-length-5 c = search needs
-
-same-length-6 : tie.Need-same-length-6
-same-length-6 c = search needs
-
-same-length-7 : tie.Need-same-length-7
-same-length-7 c = search needs
-
-same-length-8 : tie.Need-same-length-8
-same-length-8 c = search needs
 
 returns-3 : tie.Need-returns-3
 returns-3 c =
@@ -71,19 +32,19 @@ pub hold-spec : {M : Type 1} → statement M
 hold-spec =
     tie.close
     (tie.spec
-    refuse-requires
+    (λ c κs. search needs)
     returns
-    write-requires
-    judge-plainly-requires
-    enum-told
-    enum-known-broken
-    same-length
-    same-length-2
-    same-length-3
-    same-length-4
+    (λ c κs. search needs)
+    (λ c κs. search needs)
+    (λ c. search needs)
+    (λ c. search needs)
+    (λ c. search needs)
+    (λ c. search needs)
+    (λ c. search needs)
+    (λ c. search needs)
     returns-2
-    same-length-5
-    same-length-6
-    same-length-7
-    same-length-8
+    (λ c. search needs)
+    (λ c. search needs)
+    (λ c. search needs)
+    (λ c. search needs)
     returns-3)

@@ -11,24 +11,15 @@ use Rattle.election.proofs.Refusing.{here, later, mask-shape, calls, sh
 use Rattle.election.proofs.refuse.Statement.{statement}
 use Rattle.election.proofs.refuse.Tie as tie
 
-part-one-requires : tie.Need-part-one-requires
-part-one-requires c κs = search needs
-
 returns : tie.Need-returns
 unfolding electionRefusal
 returns c = here _ _ (c .before .part-one .ensures) (c .if1 .taken)
-
-refuse-second-requires : tie.Need-refuse-second-requires
-refuse-second-requires c κs = search needs
 
 returns-2 : tie.Need-returns-2
 unfolding electionRefusal
 returns-2 c =
     later _ (c .before .before .before .part-one .ensures) (c .before .before .if1 .left)
     (here _ _ (c .before .refuse-second .ensures) (c .if2 .taken))
-
-refuse-third-requires : tie.Need-refuse-third-requires
-refuse-third-requires c κs = search needs
 
 returns-3 : tie.Need-returns-3
 unfolding electionRefusal
@@ -70,11 +61,11 @@ pub refuse-spec : {M : Type 1} → statement M
 refuse-spec =
     tie.close
     (tie.spec
-    part-one-requires
+    (λ c κs. search needs)
     returns
-    refuse-second-requires
+    (λ c κs. search needs)
     returns-2
-    refuse-third-requires
+    (λ c κs. search needs)
     returns-3
     add-if4
     add-if4-2

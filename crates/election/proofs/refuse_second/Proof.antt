@@ -4,18 +4,12 @@ use Rattle.election.proofs.Refusing.{mask-given, mask-drawn}
 use Rattle.election.proofs.refuse_second.Statement.{statement}
 use Rattle.election.proofs.refuse_second.Tie as tie
 
-part-two-requires : tie.Need-part-two-requires
-part-two-requires c κs = search needs
-
 returns : tie.Need-returns
 returns c = mask-given _ _ _ _ _ (c .before .if1 .taken) (c .part-two .ensures)
-
-part-two-drawn-requires : tie.Need-part-two-drawn-requires
-part-two-drawn-requires c κs = search needs
 
 returns-2 : tie.Need-returns-2
 returns-2 c = mask-drawn _ _ _ _ _ (c .before .if1 .left) (c .part-two-drawn .ensures)
 
 pub refuse-second-spec : {M : Type 1} → statement M
 refuse-second-spec =
-    tie.close (tie.spec part-two-requires returns part-two-drawn-requires returns-2)
+    tie.close (tie.spec (λ c κs. search needs) returns (λ c κs. search needs) returns-2)

@@ -4,14 +4,8 @@ use Rattle.election.proofs.Refusing.{sides-given, sides-drawn}
 use Rattle.election.proofs.refuse_third.Statement.{statement}
 use Rattle.election.proofs.refuse_third.Tie as tie
 
-part-three-shaped-requires : tie.Need-part-three-shaped-requires
-part-three-shaped-requires c κs = search needs
-
 returns : tie.Need-returns
 returns c mask shape = sides-given _ _ _ _ _ _ _ (c .before .if1 .taken) shape (c .part-three-shaped .ensures)
-
-part-three-drawn-shaped-requires : tie.Need-part-three-drawn-shaped-requires
-part-three-drawn-shaped-requires c κs = search needs
 
 returns-2 : tie.Need-returns-2
 returns-2 c mask shape = sides-drawn _ _ _ _ _ _ _ (c .before .if1 .left) shape (c .part-three-drawn-shaped .ensures)
@@ -19,4 +13,4 @@ returns-2 c mask shape = sides-drawn _ _ _ _ _ _ _ (c .before .if1 .left) shape 
 pub refuse-third-spec : {M : Type 1} → statement M
 refuse-third-spec =
     tie.close
-    (tie.spec part-three-shaped-requires returns part-three-drawn-shaped-requires returns-2)
+    (tie.spec (λ c κs. search needs) returns (λ c κs. search needs) returns-2)

@@ -7,21 +7,9 @@ use Rattle.election.proofs.third.Tie as tie
 abbrev start : tie.After-slice-known → tie.Start
 start c = c .before .before .before .before .before .before .before .before .before .before
 
-part-three-requires : tie.Need-part-three-requires
-part-three-requires c κs = search needs
-
-same-length : tie.Need-same-length
-same-length c = search needs
-
 returns : tie.Need-returns
 returns c =
     third-given _ _ _ _ _ _ _ _ (start (c .before .before .before .before .before) .pre) _ (c .before .before .before .before .if1 .taken) (c .before .before .part-three .ensures .1)
-
-part-three-drawn-requires : tie.Need-part-three-drawn-requires
-part-three-drawn-requires c κs = search needs
-
-same-length-2 : tie.Need-same-length-2
-same-length-2 c = search needs
 
 returns-2 : tie.Need-returns-2
 returns-2 c =
@@ -31,9 +19,9 @@ pub third-spec : {M : Type 1} → statement M
 third-spec =
     tie.close
     (tie.spec
-    part-three-requires
-    same-length
+    (λ c κs. search needs)
+    (λ c. search needs)
     returns
-    part-three-drawn-requires
-    same-length-2
+    (λ c κs. search needs)
+    (λ c. search needs)
     returns-2)

@@ -9,9 +9,6 @@ use Rattle.election.proofs.write.Tie as tie
 abbrev start : tie.After-part-one → tie.Start
 start c = c .before .before .before .before .before .before .before .before .before .before .before .before .before .before
 
-part-one-requires : tie.Need-part-one-requires
-part-one-requires c κs = search needs
-
 second-requires : tie.Need-second-requires
 second-requires c κs = second-kept (nothing-refused (start (c .before .before .before .before) .pre) .0) _ _ (search needs) (search needs)
 
@@ -25,18 +22,6 @@ third-requires c κs =
 join-requires : tie.Need-join-requires
 join-requires c κs = omega (arith, nothing-refused (start (c .before .before .before .before .before .before .before .before .before .before .before .before .before .before .before .before .before) .pre) .1)
 
-same-length : tie.Need-same-length
-same-length c = search needs
-
-same-length-2 : tie.Need-same-length-2
-same-length-2 c = search needs
-
-same-length-3 : tie.Need-same-length-3
-same-length-3 c = search needs
-
-same-length-4 : tie.Need-same-length-4
-same-length-4 c = search needs
-
 returns : tie.Need-returns
 returns c =
     election _ _ _ _ _
@@ -48,12 +33,12 @@ pub write-spec : {M : Type 1} → statement M
 write-spec =
     tie.close
     (tie.spec
-    part-one-requires
+    (λ c κs. search needs)
     second-requires
     third-requires
     join-requires
-    same-length
-    same-length-2
-    same-length-3
-    same-length-4
+    (λ c. search needs)
+    (λ c. search needs)
+    (λ c. search needs)
+    (λ c. search needs)
     returns)

@@ -5,12 +5,6 @@ use Rattle.laws.specs.Faults.{numberOf}
 use Rattle.exports.proofs.number_of.Statement.{statement}
 use Rattle.exports.proofs.number_of.Tie as tie
 
-enum-told : tie.Need-enum-told
-enum-told c = search needs
-
-enum-known-f : tie.Need-enum-known-f
-enum-known-f c = search needs
-
 returns : tie.Need-returns
 unfolding numberOf
 returns c = sym (ap numberOf (c .enum-told .given .1))
@@ -20,4 +14,4 @@ unfolding numberOf
 returns-2 c = sym (ap numberOf (c .before .f .given .1))
 
 pub number-of-spec : {M : Type 1} → statement M
-number-of-spec = tie.close (tie.spec enum-told enum-known-f returns returns-2)
+number-of-spec = tie.close (tie.spec (λ c. search needs) (λ c. search needs) returns returns-2)

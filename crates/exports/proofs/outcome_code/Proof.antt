@@ -5,15 +5,6 @@ use Rattle.exports.specs.Codes.{outcomeNumber}
 use Rattle.exports.proofs.outcome_code.Statement.{statement}
 use Rattle.exports.proofs.outcome_code.Tie as tie
 
-enum-told : tie.Need-enum-told
-enum-told c = search needs
-
-enum-known-o : tie.Need-enum-known-o
-enum-known-o c = search needs
-
-enum-known-o-2 : tie.Need-enum-known-o-2
-enum-known-o-2 c = search needs
-
 returns : tie.Need-returns
 unfolding outcomeNumber
 returns c = sym (ap outcomeNumber (c .enum-told .given .1))
@@ -27,4 +18,4 @@ unfolding outcomeNumber
 returns-3 c = sym (ap outcomeNumber (c .before .o2 .given .1))
 
 pub outcome-code-spec : {M : Type 1} → statement M
-outcome-code-spec = tie.close (tie.spec enum-told enum-known-o enum-known-o-2 returns returns-2 returns-3)
+outcome-code-spec = tie.close (tie.spec (λ c. search needs) (λ c. search needs) (λ c. search needs) returns returns-2 returns-3)

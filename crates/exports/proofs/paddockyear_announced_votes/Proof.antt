@@ -4,17 +4,8 @@ use Rattle.exports.specs.Codes.{code-of}
 use Rattle.exports.proofs.paddockyear_announced_votes.Statement.{statement}
 use Rattle.exports.proofs.paddockyear_announced_votes.Tie as tie
 
-announced-votes-requires : tie.Need-announced-votes-requires
-announced-votes-requires c κs = search needs
-
-written-code-requires : tie.Need-written-code-requires
-written-code-requires c κs = search needs
-
-same-length : tie.Need-same-length
-same-length c = search needs
-
 returns : tie.Need-returns
 returns c = (code-of _ (c .before .before .before .announced-votes .ensures .0) (c .written-code .ensures), c .before .before .before .announced-votes .ensures .1)
 
 pub paddockyear-announced-votes-spec : {M : Type 1} → statement M
-paddockyear-announced-votes-spec = tie.close (tie.spec announced-votes-requires written-code-requires same-length returns)
+paddockyear-announced-votes-spec = tie.close (tie.spec (λ c κs. search needs) (λ c κs. search needs) (λ c. search needs) returns)

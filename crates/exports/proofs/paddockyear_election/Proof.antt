@@ -5,24 +5,6 @@ use Rattle.exports.specs.Codes.{outcome-code}
 use Rattle.exports.proofs.paddockyear_election.Statement.{statement}
 use Rattle.exports.proofs.paddockyear_election.Tie as tie
 
-hold-requires : tie.Need-hold-requires
-hold-requires c κs = search needs
-
-outcome-code-requires : tie.Need-outcome-code-requires
-outcome-code-requires c κs = search needs
-
-same-length : tie.Need-same-length
-same-length c = search needs
-
-same-length-2 : tie.Need-same-length-2
-same-length-2 c = search needs
-
-same-length-3 : tie.Need-same-length-3
-same-length-3 c = search needs
-
-same-length-4 : tie.Need-same-length-4
-same-length-4 c = search needs
-
 returns : tie.Need-returns
 unfolding differ
 returns c =
@@ -33,10 +15,10 @@ pub paddockyear-election-spec : {M : Type 1} → statement M
 paddockyear-election-spec =
     tie.close
     (tie.spec
-    hold-requires
-    outcome-code-requires
-    same-length
-    same-length-2
-    same-length-3
-    same-length-4
+    (λ c κs. search needs)
+    (λ c κs. search needs)
+    (λ c. search needs)
+    (λ c. search needs)
+    (λ c. search needs)
+    (λ c. search needs)
     returns)

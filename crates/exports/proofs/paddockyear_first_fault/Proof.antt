@@ -8,15 +8,6 @@ use Rattle.exports.specs.Codes.{placeIn}
 use Rattle.exports.proofs.paddockyear_first_fault.Statement.{statement}
 use Rattle.exports.proofs.paddockyear_first_fault.Tie as tie
 
-first-fault-requires : tie.Need-first-fault-requires
-first-fault-requires c κs = search needs
-
-enum-told : tie.Need-enum-told
-enum-told c = search needs
-
-enum-known-k : tie.Need-enum-known-k
-enum-known-k c = search needs
-
 returns : tie.Need-returns
 unfolding differ numberOf placeIn
 returns c =
@@ -30,4 +21,4 @@ returns-2 c =
     (sym (ap numberOf e), sym (ap (λ (f : Found). placeIn f (c .before .before .before .before .before .args .place .now)) e))
 
 pub paddockyear-first-fault-spec : {M : Type 1} → statement M
-paddockyear-first-fault-spec = tie.close (tie.spec first-fault-requires enum-told enum-known-k returns returns-2)
+paddockyear-first-fault-spec = tie.close (tie.spec (λ c κs. search needs) (λ c. search needs) (λ c. search needs) returns returns-2)

@@ -4,17 +4,8 @@ use Rattle.exports.specs.Codes.{code-of}
 use Rattle.exports.proofs.paddockyear_part_two_drawn.Statement.{statement}
 use Rattle.exports.proofs.paddockyear_part_two_drawn.Tie as tie
 
-part-two-drawn-requires : tie.Need-part-two-drawn-requires
-part-two-drawn-requires c κs = search needs
-
-written-code-requires : tie.Need-written-code-requires
-written-code-requires c κs = search needs
-
-same-length : tie.Need-same-length
-same-length c = search needs
-
 returns : tie.Need-returns
 returns c = (code-of _ (c .before .before .before .part-two-drawn .ensures .0) (c .written-code .ensures), c .before .before .before .part-two-drawn .ensures .1)
 
 pub paddockyear-part-two-drawn-spec : {M : Type 1} → statement M
-paddockyear-part-two-drawn-spec = tie.close (tie.spec part-two-drawn-requires written-code-requires same-length returns)
+paddockyear-part-two-drawn-spec = tie.close (tie.spec (λ c κs. search needs) (λ c κs. search needs) (λ c. search needs) returns)

@@ -5,18 +5,6 @@ use Rattle.exports.specs.Codes.{receiptCode}
 use Rattle.exports.proofs.receipt_code.Statement.{statement}
 use Rattle.exports.proofs.receipt_code.Tie as tie
 
-enum-told : tie.Need-enum-told
-enum-told c = search needs
-
-enum-told-2 : tie.Need-enum-told-2
-enum-told-2 c = search needs
-
-enum-told-3 : tie.Need-enum-told-3
-enum-told-3 c = search needs
-
-enum-known-answer : tie.Need-enum-known-answer
-enum-known-answer c = search needs
-
 returns : tie.Need-returns
 unfolding receiptCode
 returns c = sym (ap receiptCode (c .enum-told .given .1))
@@ -34,4 +22,4 @@ unfolding receiptCode
 returns-4 c = sym (ap receiptCode (c .before .answer .given .1))
 
 pub receipt-code-spec : {M : Type 1} → statement M
-receipt-code-spec = tie.close (tie.spec enum-told enum-told-2 enum-told-3 enum-known-answer returns returns-2 returns-3 returns-4)
+receipt-code-spec = tie.close (tie.spec (λ c. search needs) (λ c. search needs) (λ c. search needs) (λ c. search needs) returns returns-2 returns-3 returns-4)

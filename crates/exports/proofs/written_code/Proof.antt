@@ -5,12 +5,6 @@ use Rattle.protocol.specs.Answers.{writtenNumber}
 use Rattle.exports.proofs.written_code.Statement.{statement}
 use Rattle.exports.proofs.written_code.Tie as tie
 
-enum-told : tie.Need-enum-told
-enum-told c = search needs
-
-enum-known-w : tie.Need-enum-known-w
-enum-known-w c = search needs
-
 returns : tie.Need-returns
 returns c = sym (ap writtenNumber (c .enum-told .given .1))
 
@@ -18,4 +12,4 @@ returns-2 : tie.Need-returns-2
 returns-2 c = sym (ap writtenNumber (c .before .w .given .1))
 
 pub written-code-spec : {M : Type 1} → statement M
-written-code-spec = tie.close (tie.spec enum-told enum-known-w returns returns-2)
+written-code-spec = tie.close (tie.spec (λ c. search needs) (λ c. search needs) returns returns-2)

@@ -37,12 +37,6 @@ put-halves-of-requires c κs =
     let f : ℕ → List ℕ = λ j. halvesIn p (s .args .mask) (s .args .positions .now) (s .args .rows .now) (s .args .mixed .now) (s .args .numbers .now) (s .args .keys .now) (item (s .args .sides .now) j) j in
     (h .halves, (lj, (h .binary (g .j) lj, room-even f ((p .compared + 1) * 112) (g .j) (p .ballots) (λ j lj. length-halves (h .halves) lj (h .binary j lj)) (g .inv .1) (s .pre .1) lj)))
 
-add-j : tie.Need-add-j Inv-loop μ-loop
-add-j c = omega arith
-
-loop-less : tie.Need-loop-less Inv-loop μ-loop
-loop-less c = omega arith
-
 loop-again : tie.Need-loop-again Inv-loop μ-loop
 loop-again c =
     let s = c .before .before .before .before .before .before .before .before .before .before .before .before .before .before in
@@ -50,9 +44,6 @@ loop-again c =
     let g = c .before .before .before .before .before .before .loop in
     let f : ℕ → List ℕ = λ j. halvesIn p (s .args .mask) (s .args .positions .now) (s .args .rows .now) (s .args .mixed .now) (s .args .numbers .now) (s .args .keys .now) (item (s .args .sides .now) j) j in
     (omega arith, go-turn f (g .j) (g .inv .1) (c .before .before .put-halves-of .ensures))
-
-same-length : tie.Need-same-length Inv-loop μ-loop
-same-length c = omega arith
 
 returns : tie.Need-returns Inv-loop μ-loop
 returns c =
@@ -69,8 +60,8 @@ put-halves-spec =
     shared-slice-read-side
     cast-side
     put-halves-of-requires
-    add-j
-    loop-less
+    (λ c. omega arith)
+    (λ c. omega arith)
     loop-again
-    same-length
+    (λ c. omega arith)
     returns)

@@ -46,12 +46,6 @@ put-if-compared-requires c κs =
     let fits = room f (g .l) (2 * p .compared) (g .inv .1) (omega (arith, length-list-halves h (s .pre .1 .0) (s .pre .1 .1 .0))) ll in
     (list-ready (h .opened .mixed-ready) (h .opened .numbers-ready) ll, (keys-ready (h .opened .keys-long) ll, (h .inside (g .l) (s .args .j) ll (s .pre .1 .0), (s .pre .1 .1 .0, omega (arith, fits, length-if-compared h (s .pre .1 .0) (s .pre .1 .1 .0) (g .l) ll)))))
 
-add-l : tie.Need-add-l Inv-loop μ-loop
-add-l c = omega arith
-
-loop-less : tie.Need-loop-less Inv-loop μ-loop
-loop-less c = omega arith
-
 loop-again : tie.Need-loop-again Inv-loop μ-loop
 loop-again c =
     let s = c .before .before .before .before .before .before .before .before .before .before .before .before .before in
@@ -59,9 +53,6 @@ loop-again c =
     let g = c .before .before .before .before .before .before .loop in
     let f : ℕ → List ℕ = halfIf p (s .args .mask) (s .args .positions .now) (s .args .mixed .now) (s .args .numbers .now) (s .args .keys .now) (s .args .j) (s .args .side) in
     (omega arith, go-turn f (g .l) (g .inv .1) (c .before .before .put-if-compared .ensures))
-
-same-length : tie.Need-same-length Inv-loop μ-loop
-same-length c = omega arith
 
 returns : tie.Need-returns Inv-loop μ-loop
 returns c =
@@ -81,8 +72,8 @@ put-linked-spec =
     mul-i-2
     shared-slice-read-i
     put-if-compared-requires
-    add-l
-    loop-less
+    (λ c. omega arith)
+    (λ c. omega arith)
     loop-again
-    same-length
+    (λ c. omega arith)
     returns)

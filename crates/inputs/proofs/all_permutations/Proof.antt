@@ -35,9 +35,6 @@ loop-holds : tie.Need-loop-holds Inv-loop μ-loop
 unfolding every
 loop-holds c = (omega arith, refl)
 
-mul-loop : tie.Need-mul-loop Inv-loop μ-loop
-mul-loop c = omega arith
-
 -- the row of a turn lies inside
 ends : (c : tie.In-loop Inv-loop μ-loop) → c .before .loop .c * c .before .before .before .args .ballots + c .before .before .before .args .ballots ≤ length (c .before .before .before .args .permutations .now)
 ends c = omega (arith, row-ends (c .before .loop .c) (c .before .before .before .args .lists) (c .before .before .before .args .ballots) (omega arith))
@@ -50,12 +47,6 @@ add-to c = omega (arith, ends c)
 
 mul-is-permutation : tie.Need-mul-is-permutation Inv-loop μ-loop
 mul-is-permutation c = omega (arith, ends c)
-
-sub-is-permutation : tie.Need-sub-is-permutation Inv-loop μ-loop
-sub-is-permutation c = omega arith
-
-part-is-permutation-start : tie.Need-part-is-permutation-start Inv-loop μ-loop
-part-is-permutation-start c = omega arith
 
 part-is-permutation-end : tie.Need-part-is-permutation-end Inv-loop μ-loop
 part-is-permutation-end c = omega (arith, ends c)
@@ -75,12 +66,6 @@ returns c =
     let args = at .before .before .args in
     every-stop (permutationAt (args .ballots) (args .permutations .now)) _ (at .loop .c) (omega arith)
     (sym (ap (λ (l : List ℕ). isPermutation (args .ballots) (item l)) (lent (args .permutations .now) (at .loop .c) (args .ballots))) ∙ failed (c .before .is-permutation .ensures) (c .if1 .taken))
-
-add-c : tie.Need-add-c Inv-loop μ-loop
-add-c c = omega arith
-
-loop-less : tie.Need-loop-less Inv-loop μ-loop
-loop-less c = omega arith
 
 loop-again : tie.Need-loop-again Inv-loop μ-loop
 loop-again c =
@@ -105,16 +90,16 @@ all-permutations-spec =
     Inv-loop
     μ-loop
     loop-holds
-    mul-loop
+    (λ c. omega arith)
     mul-from
     add-to
     mul-is-permutation
-    sub-is-permutation
-    part-is-permutation-start
+    (λ c. omega arith)
+    (λ c. omega arith)
     part-is-permutation-end
     is-permutation-requires
     returns
-    add-c
-    loop-less
+    (λ c. omega arith)
+    (λ c. omega arith)
     loop-again
     returns-2)

@@ -18,9 +18,6 @@ returns-2 : tie.Need-returns-2
 unfolding dueLengths
 returns-2 c modulus = and-go _ _ (is-equal (omega arith)) (and-stop _ _ (not-equal (omega arith)))
 
-mul-if3 : tie.Need-mul-if3
-mul-if3 c = search needs
-
 mul-if3-2 : tie.Need-mul-if3-2
 mul-if3-2 c = omega (arith, mul-le-mul (c .before .before .pre .1) (c .before .before .pre .0))
 
@@ -31,17 +28,11 @@ returns-3 : tie.Need-returns-3
 unfolding dueLengths
 returns-3 c modulus = and-go _ _ (is-equal (omega arith)) (and-go _ _ (is-equal (omega arith)) (and-stop _ _ (not-equal (omega arith))))
 
-mul-if4 : tie.Need-mul-if4
-mul-if4 c = search needs
-
 returns-4 : tie.Need-returns-4
 unfolding dueLengths
 returns-4 c modulus =
     and-go _ _ (is-equal (omega arith))
     (and-go _ _ (is-equal (omega arith)) (and-go _ _ (is-equal (omega arith)) (and-stop _ _ (not-equal (omega arith)))))
-
-mul-result : tie.Need-mul-result
-mul-result c = search needs
 
 mul-result-2 : tie.Need-mul-result-2
 mul-result-2 c = omega (arith, mul-le-mul (c .before .before .before .before .pre .1) (c .before .before .before .before .pre .0))
@@ -62,13 +53,13 @@ due-lengths-spec =
     mul-each
     returns
     returns-2
-    mul-if3
+    (λ c. search needs)
     mul-if3-2
     add-if3
     returns-3
-    mul-if4
+    (λ c. search needs)
     returns-4
-    mul-result
+    (λ c. search needs)
     mul-result-2
     add-result
     returns-5)

@@ -6,15 +6,9 @@ use Rattle.protocol.specs.Terms.{inLimits, listsInLimits}
 use Rattle.inputs.proofs.in_limits.Statement.{statement}
 use Rattle.inputs.proofs.in_limits.Tie as tie
 
-modulus-in-limits-requires : tie.Need-modulus-in-limits-requires
-modulus-in-limits-requires c κs = search needs
-
 returns : tie.Need-returns
 unfolding inLimits
 returns c = and-stop _ _ (failed (c .before .modulus-in-limits .ensures) (c .if1 .taken))
-
-ballots-in-limits-requires : tie.Need-ballots-in-limits-requires
-ballots-in-limits-requires c κs = search needs
 
 returns-2 : tie.Need-returns-2
 unfolding inLimits
@@ -38,9 +32,9 @@ pub in-limits-spec : {M : Type 1} → statement M
 in-limits-spec =
     tie.close
     (tie.spec
-    modulus-in-limits-requires
+    (λ c κs. search needs)
     returns
-    ballots-in-limits-requires
+    (λ c κs. search needs)
     returns-2
     returns-3
     returns-4)

@@ -21,12 +21,6 @@ loop-holds : tie.Need-loop-holds Inv-loop μ-loop
 unfolding every
 loop-holds c = (omega arith, (refl, (none-marked _, refl)))
 
-mul-place : tie.Need-mul-place Inv-loop μ-loop
-mul-place c = omega arith
-
-shared-slice-read-place : tie.Need-shared-slice-read-place Inv-loop μ-loop
-shared-slice-read-place c = omega arith
-
 cast-place : tie.Need-cast-place Inv-loop μ-loop
 cast-place c = omega (arith, c .shared-slice-known .given (c .before .before .loop .i))
 
@@ -38,9 +32,6 @@ returns c =
     let perm = item (args .permutation .now) in
     every-stop (fresh (args .n) perm) _ (at .loop .i) (omega arith) (fresh-high (args .n) perm (at .loop .i) (c .if1 .taken))
 
-array-read-if2 : tie.Need-array-read-if2 Inv-loop μ-loop
-array-read-if2 c = omega arith
-
 returns-2 : tie.Need-returns-2 Inv-loop μ-loop
 unfolding isPermutation fresh unused
 returns-2 c =
@@ -49,15 +40,6 @@ returns-2 c =
     let perm = item (args .permutation .now) in
     every-stop (fresh (args .n) perm) _ (at .loop .i) (omega arith)
     (fresh-used (args .n) perm (at .loop .i) (sym (at .loop .inv .1 .1 .0 .clear (perm (at .loop .i)) (omega arith)) ∙ ap not (c .if2 .taken)))
-
-array-write-marks : tie.Need-array-write-marks Inv-loop μ-loop
-array-write-marks c = omega arith
-
-add-i : tie.Need-add-i Inv-loop μ-loop
-add-i c = omega arith
-
-loop-less : tie.Need-loop-less Inv-loop μ-loop
-loop-less c = omega arith
 
 loop-again : tie.Need-loop-again Inv-loop μ-loop
 loop-again c =
@@ -90,14 +72,14 @@ is-permutation-spec =
     Inv-loop
     μ-loop
     loop-holds
-    mul-place
-    shared-slice-read-place
+    (λ c. omega arith)
+    (λ c. omega arith)
     cast-place
     returns
-    array-read-if2
+    (λ c. omega arith)
     returns-2
-    array-write-marks
-    add-i
-    loop-less
+    (λ c. omega arith)
+    (λ c. omega arith)
+    (λ c. omega arith)
     loop-again
     returns-3)

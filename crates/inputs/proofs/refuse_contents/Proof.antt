@@ -27,9 +27,6 @@ small : (c : tie.Else5) → (allBelow (c .before .before .before .before .before
 small c =
     and-iff _ _ .1 (held (c .before .before .before .all-below .ensures) (c .before .before .if4 .left), held (c .before .all-below2 .ensures) (c .if5 .left))
 
-ids-rise-requires : tie.Need-ids-rise-requires
-ids-rise-requires c κs = search needs
-
 returns : tie.Need-returns
 unfolding contentsRefusal
 returns c keys =
@@ -43,18 +40,12 @@ returns-3 : tie.Need-returns-3
 unfolding contentsRefusal
 returns-3 c keys = rule-go _ _ _ (rise (c .before .before) keys) (rule-go _ _ _ (not-false _ (c .before .if2 .left)) (rule-stop _ _ _ (not-true _ (c .if3 .taken))))
 
-all-below-requires : tie.Need-all-below-requires
-all-below-requires c κs = search needs
-
 returns-4 : tie.Need-returns-4
 unfolding contentsRefusal
 returns-4 c keys =
     rule-go _ _ _ (rise (c .before .before .before .before) keys)
     (rule-go _ _ _ (not-false _ (c .before .before .before .if2 .left))
     (rule-go _ _ _ (not-false _ (c .before .before .if3 .left)) (rule-stop _ _ _ (sym (and-stop _ _ (failed (c .before .all-below .ensures) (c .if4 .taken)))))))
-
-all-below-requires-2 : tie.Need-all-below-requires-2
-all-below-requires-2 c κs = search needs
 
 returns-5 : tie.Need-returns-5
 unfolding contentsRefusal
@@ -71,12 +62,6 @@ returns-6 c keys =
     rule-go _ _ _ (rise (c .before .before .before .before .before .before .before) keys)
     (rule-go _ _ _ (not-false _ (c .before .before .before .before .before .before .if2 .left))
     (rule-go _ _ _ (not-false _ (c .before .before .before .before .before .if3 .left)) (rule-go _ _ _ (small (c .before)) (rule-stop _ _ _ (not-true _ (c .if6 .taken))))))
-
-mul-all-permutations : tie.Need-mul-all-permutations
-mul-all-permutations c = search needs
-
-all-permutations-requires : tie.Need-all-permutations-requires
-all-permutations-requires c κs = search needs
 
 returns-7 : tie.Need-returns-7
 unfolding contentsRefusal
@@ -102,16 +87,16 @@ pub refuse-contents-spec : {M : Type 1} → statement M
 refuse-contents-spec =
     tie.close
     (tie.spec
-    ids-rise-requires
+    (λ c κs. search needs)
     returns
     returns-2
     returns-3
-    all-below-requires
+    (λ c κs. search needs)
     returns-4
-    all-below-requires-2
+    (λ c κs. search needs)
     returns-5
     returns-6
-    mul-all-permutations
-    all-permutations-requires
+    (λ c. search needs)
+    (λ c κs. search needs)
     returns-7
     returns-8)

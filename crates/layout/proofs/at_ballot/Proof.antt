@@ -5,15 +5,9 @@ use Rattle.protocol.specs.Layout.{atBallot}
 use Rattle.layout.proofs.at_ballot.Statement.{statement}
 use Rattle.layout.proofs.at_ballot.Tie as tie
 
-mul-result : tie.Need-mul-result
-mul-result c = search needs
-
-add-result : tie.Need-add-result
-add-result c = search needs
-
 returns : tie.Need-returns
 unfolding atBallot
 returns c = omega arith
 
 pub at-ballot-spec : {M : Type 1} → statement M
-at-ballot-spec = tie.close (tie.spec mul-result add-result returns)
+at-ballot-spec = tie.close (tie.spec (λ c. search needs) (λ c. search needs) returns)

@@ -8,15 +8,6 @@ use Rattle.protocol.specs.Layout.{atBallotHalf}
 use Rattle.layout.proofs.at_ballot_half.Statement.{statement}
 use Rattle.layout.proofs.at_ballot_half.Tie as tie
 
-at-second-dice-requires : tie.Need-at-second-dice-requires
-at-second-dice-requires c κs = search needs
-
-add-result : tie.Need-add-result
-add-result c = search needs
-
-add-result-2 : tie.Need-add-result-2
-add-result-2 c = search needs
-
 within : (c : tie.After-struct-known) → c .before .before .args .j * (c .before .before .args .p .compared + 1) ≤ mostBallots * 13
 within c = mul-le-mul {m₂ = 13} (c .before .before .pre .1) (omega arith)
 
@@ -37,9 +28,9 @@ pub at-ballot-half-spec : {M : Type 1} → statement M
 at-ballot-half-spec =
     tie.close
     (tie.spec
-    at-second-dice-requires
-    add-result
-    add-result-2
+    (λ c κs. search needs)
+    (λ c. search needs)
+    (λ c. search needs)
     mul-result
     mul-result-2
     add-result-3

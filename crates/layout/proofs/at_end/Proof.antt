@@ -5,12 +5,9 @@ use Rattle.protocol.specs.Layout.{atEnd, atFullOpening}
 use Rattle.layout.proofs.at_end.Statement.{statement}
 use Rattle.layout.proofs.at_end.Tie as tie
 
-at-full-opening-requires : tie.Need-at-full-opening-requires
-at-full-opening-requires c κs = search needs
-
 returns : tie.Need-returns
 unfolding atEnd atFullOpening
 returns c = omega arith
 
 pub at-end-spec : {M : Type 1} → statement M
-at-end-spec = tie.close (tie.spec at-full-opening-requires returns)
+at-end-spec = tie.close (tie.spec (λ c κs. search needs) returns)

@@ -5,12 +5,9 @@ use Rattle.protocol.specs.Layout.{atSecondDice, atLink}
 use Rattle.layout.proofs.at_second_dice.Statement.{statement}
 use Rattle.layout.proofs.at_second_dice.Tie as tie
 
-at-link-requires : tie.Need-at-link-requires
-at-link-requires c κs = search needs
-
 returns : tie.Need-returns
 unfolding atSecondDice atLink
 returns c = omega arith
 
 pub at-second-dice-spec : {M : Type 1} → statement M
-at-second-dice-spec = tie.close (tie.spec at-link-requires returns)
+at-second-dice-spec = tie.close (tie.spec (λ c κs. search needs) returns)

@@ -8,75 +8,6 @@ use Rattle.lists.proofs.Splits.{entry-split-ready, split-is, entry-thre
 use Rattle.lists.proofs.entry_split.Statement.{statement}
 use Rattle.lists.proofs.entry_split.Tie as tie
 
-mul-from : tie.Need-mul-from
-mul-from c = search needs
-
-mul-from-2 : tie.Need-mul-from-2
-mul-from-2 c = search needs
-
-add-t10 : tie.Need-add-t10
-add-t10 c = search needs
-
-mul-t11 : tie.Need-mul-t11
-mul-t11 c = search needs
-
-shared-slice-read-t13 : tie.Need-shared-slice-read-t13
-shared-slice-read-t13 c = search needs
-
-add-t14 : tie.Need-add-t14
-add-t14 c = search needs
-
-add-t15 : tie.Need-add-t15
-add-t15 c = search needs
-
-mul-t16 : tie.Need-mul-t16
-mul-t16 c = search needs
-
-shared-slice-read-t18 : tie.Need-shared-slice-read-t18
-shared-slice-read-t18 c = search needs
-
-mul-t19 : tie.Need-mul-t19
-mul-t19 c = search needs
-
-add-t20 : tie.Need-add-t20
-add-t20 c = search needs
-
-add-t21 : tie.Need-add-t21
-add-t21 c = search needs
-
-mul-t22 : tie.Need-mul-t22
-mul-t22 c = search needs
-
-shared-slice-read-t24 : tie.Need-shared-slice-read-t24
-shared-slice-read-t24 c = search needs
-
-mul-three : tie.Need-mul-three
-mul-three c = search needs
-
-mul-three-2 : tie.Need-mul-three-2
-mul-three-2 c = search needs
-
-mul-three-3 : tie.Need-mul-three-3
-mul-three-3 c = search needs
-
-add-three : tie.Need-add-three
-add-three c = search needs
-
-mul-three-4 : tie.Need-mul-three-4
-mul-three-4 c = search needs
-
-add-three-2 : tie.Need-add-three-2
-add-three-2 c = search needs
-
-mul-three-5 : tie.Need-mul-three-5
-mul-three-5 c = search needs
-
-add-three-3 : tie.Need-add-three-3
-add-three-3 c = search needs
-
-three-requires : tie.Need-three-requires
-three-requires c κs = search needs
-
 returns : tie.Need-returns
 unfolding entrySplit
 returns c =
@@ -90,27 +21,27 @@ pub entry-split-spec : {M : Type 1} → statement M
 entry-split-spec =
     tie.close
     (tie.spec
-    mul-from
-    mul-from-2
-    add-t10
-    mul-t11
-    shared-slice-read-t13
-    add-t14
-    add-t15
-    mul-t16
-    shared-slice-read-t18
-    mul-t19
-    add-t20
-    add-t21
-    mul-t22
-    shared-slice-read-t24
-    mul-three
-    mul-three-2
-    mul-three-3
-    add-three
-    mul-three-4
-    add-three-2
-    mul-three-5
-    add-three-3
-    three-requires
+    (λ c. search needs)
+    (λ c. search needs)
+    (λ c. search needs)
+    (λ c. search needs)
+    (λ c. search needs)
+    (λ c. search needs)
+    (λ c. search needs)
+    (λ c. search needs)
+    (λ c. search needs)
+    (λ c. search needs)
+    (λ c. search needs)
+    (λ c. search needs)
+    (λ c. search needs)
+    (λ c. search needs)
+    (λ c. search needs)
+    (λ c. search needs)
+    (λ c. search needs)
+    (λ c. search needs)
+    (λ c. search needs)
+    (λ c. search needs)
+    (λ c. search needs)
+    (λ c. search needs)
+    (λ c κs. search needs)
     returns)

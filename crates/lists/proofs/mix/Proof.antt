@@ -50,23 +50,11 @@ add-to c = omega (arith, ends c)
 mul-mix-list : tie.Need-mul-mix-list
 mul-mix-list c = omega (arith, ends c)
 
-sub-mix-list : tie.Need-sub-mix-list
-sub-mix-list c = omega arith
-
-part-mix-list-start : tie.Need-part-mix-list-start
-part-mix-list-start c = omega arith
-
 part-mix-list-end : tie.Need-part-mix-list-end
 part-mix-list-end c = omega (arith, ends c)
 
 mul-mix-list-2 : tie.Need-mul-mix-list-2
 mul-mix-list-2 c = omega (arith, ends (c .before))
-
-sub-mix-list-2 : tie.Need-sub-mix-list-2
-sub-mix-list-2 c = omega arith
-
-part-mix-list-start-2 : tie.Need-part-mix-list-start-2
-part-mix-list-start-2 c = omega arith
 
 part-mix-list-end-2 : tie.Need-part-mix-list-end-2
 part-mix-list-end-2 c = omega (arith, ends (c .before))
@@ -79,9 +67,6 @@ mix-list-requires c κs =
     let ready = start .pre in
     rw (part-is (start .args .numbers .now) (5 * n + l * (9 * n)) (9 * n), part-is (start .args .permutations .now) (l * (3 * n)) (3 * n))
     (list-mixes (ready .0) (ready .1 .0) (ready .1 .1 .0) (ready .1 .1 .1 .0) (ready .1 .1 .1 .1))
-
-same-length : tie.Need-same-length
-same-length c = search needs
 
 returns : tie.Need-returns
 returns c =
@@ -105,13 +90,13 @@ mix-spec =
     mul-to
     add-to
     mul-mix-list
-    sub-mix-list
-    part-mix-list-start
+    (λ c. omega arith)
+    (λ c. omega arith)
     part-mix-list-end
     mul-mix-list-2
-    sub-mix-list-2
-    part-mix-list-start-2
+    (λ c. omega arith)
+    (λ c. omega arith)
     part-mix-list-end-2
     mix-list-requires
-    same-length
+    (λ c. search needs)
     returns)

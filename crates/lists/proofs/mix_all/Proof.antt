@@ -41,12 +41,6 @@ add-to c = omega (arith, ends c)
 mul-mix : tie.Need-mul-mix Inv-loop μ-loop
 mul-mix c = omega (arith, ends c)
 
-sub-mix : tie.Need-sub-mix Inv-loop μ-loop
-sub-mix c = omega arith
-
-part-mix-start : tie.Need-part-mix-start Inv-loop μ-loop
-part-mix-start c = omega arith
-
 part-mix-end : tie.Need-part-mix-end Inv-loop μ-loop
 part-mix-end c = omega (arith, ends c)
 
@@ -86,8 +80,8 @@ mix-all-spec =
     mul-to
     add-to
     mul-mix
-    sub-mix
-    part-mix-start
+    (λ c. omega arith)
+    (λ c. omega arith)
     part-mix-end
     mix-requires
     add-l

@@ -47,23 +47,11 @@ add-to c = omega (arith, ends c)
 mul-fill-positions : tie.Need-mul-fill-positions Inv-loop μ-loop
 mul-fill-positions c = omega (arith, ends c)
 
-sub-fill-positions : tie.Need-sub-fill-positions Inv-loop μ-loop
-sub-fill-positions c = omega arith
-
-part-fill-positions-start : tie.Need-part-fill-positions-start Inv-loop μ-loop
-part-fill-positions-start c = omega arith
-
 part-fill-positions-end : tie.Need-part-fill-positions-end Inv-loop μ-loop
 part-fill-positions-end c = omega (arith, ends c)
 
 mul-fill-positions-2 : tie.Need-mul-fill-positions-2 Inv-loop μ-loop
 mul-fill-positions-2 c = omega (arith, ends (c .before))
-
-sub-fill-positions-2 : tie.Need-sub-fill-positions-2 Inv-loop μ-loop
-sub-fill-positions-2 c = omega arith
-
-part-fill-positions-start-2 : tie.Need-part-fill-positions-start-2 Inv-loop μ-loop
-part-fill-positions-start-2 c = omega arith
 
 part-fill-positions-end-2 : tie.Need-part-fill-positions-end-2 Inv-loop μ-loop
 part-fill-positions-end-2 c = omega (arith, ends (c .before))
@@ -116,12 +104,12 @@ place-all-spec =
     mul-from
     add-to
     mul-fill-positions
-    sub-fill-positions
-    part-fill-positions-start
+    (λ c. omega arith)
+    (λ c. omega arith)
     part-fill-positions-end
     mul-fill-positions-2
-    sub-fill-positions-2
-    part-fill-positions-start-2
+    (λ c. omega arith)
+    (λ c. omega arith)
     part-fill-positions-end-2
     fill-positions-requires
     add-l

@@ -10,42 +10,6 @@ use Rattle.lists.proofs.Splits.{halves-below, entry-three-is}
 use Rattle.lists.proofs.shift.Statement.{statement}
 use Rattle.lists.proofs.shift.Tie as tie
 
-mul-three : tie.Need-mul-three
-mul-three c = search needs
-
-add-three : tie.Need-add-three
-add-three c = search needs
-
-three-requires : tie.Need-three-requires
-three-requires c κs = search needs
-
-mul-three-2 : tie.Need-mul-three-2
-mul-three-2 c = search needs
-
-mul-three-3 : tie.Need-mul-three-3
-mul-three-3 c = search needs
-
-mul-three-4 : tie.Need-mul-three-4
-mul-three-4 c = search needs
-
-add-three-2 : tie.Need-add-three-2
-add-three-2 c = search needs
-
-mul-three-5 : tie.Need-mul-three-5
-mul-three-5 c = search needs
-
-add-three-3 : tie.Need-add-three-3
-add-three-3 c = search needs
-
-mul-three-6 : tie.Need-mul-three-6
-mul-three-6 c = search needs
-
-add-three-4 : tie.Need-add-three-4
-add-three-4 c = search needs
-
-three-requires-2 : tie.Need-three-requires-2
-three-requires-2 c κs = search needs
-
 link-shift-requires : tie.Need-link-shift-requires
 link-shift-requires c κs = λ k h.
     let s = c .before .before .before .args in
@@ -66,17 +30,17 @@ pub shift-spec : {M : Type 1} → statement M
 shift-spec =
     tie.close
     (tie.spec
-    mul-three
-    add-three
-    three-requires
-    mul-three-2
-    mul-three-3
-    mul-three-4
-    add-three-2
-    mul-three-5
-    add-three-3
-    mul-three-6
-    add-three-4
-    three-requires-2
+    (λ c. search needs)
+    (λ c. search needs)
+    (λ c κs. search needs)
+    (λ c. search needs)
+    (λ c. search needs)
+    (λ c. search needs)
+    (λ c. search needs)
+    (λ c. search needs)
+    (λ c. search needs)
+    (λ c. search needs)
+    (λ c. search needs)
+    (λ c κs. search needs)
     link-shift-requires
     returns)

@@ -15,26 +15,14 @@ pairs-inside c = (pairs-end _ _ _ _ (c .pre .given) (c .args .c) (c .pre .column
 permutation-inside : (c : tie.Start) → (c .args .c * c .args .n + c .args .n ≤ length (c .args .permutations .now)) × (length (c .args .permutations .now) ≤ 3072)
 permutation-inside c = (permutation-end _ _ _ _ (c .pre .given) (c .args .c) (c .pre .column), omega arith)
 
-mul-first : tie.Need-mul-first
-mul-first c = search needs
-
 mul-first-2 : tie.Need-mul-first-2
 mul-first-2 c = omega (arith, pairs-inside (c .before .before .before .before .before))
-
-mul-last : tie.Need-mul-last
-mul-last c = search needs
 
 add-last : tie.Need-add-last
 add-last c = omega (arith, pairs-inside (c .before .before .before .before .before))
 
 mul-row-offsets : tie.Need-mul-row-offsets
 mul-row-offsets c = omega (arith, pairs-inside (c .before .before .before .before .before))
-
-sub-row-offsets : tie.Need-sub-row-offsets
-sub-row-offsets c = search needs
-
-part-row-offsets-start : tie.Need-part-row-offsets-start
-part-row-offsets-start c = search needs
 
 part-row-offsets-end : tie.Need-part-row-offsets-end
 part-row-offsets-end c = omega (arith, pairs-inside (c .before .before .before .before .before))
@@ -53,12 +41,6 @@ add-to c = omega (arith, permutation-inside (c .before .before .before .before .
 mul-mix-row : tie.Need-mul-mix-row
 mul-mix-row c = omega (arith, permutation-inside (c .before .before .before .before .before .before .before .before .before .before .before))
 
-sub-mix-row : tie.Need-sub-mix-row
-sub-mix-row c = search needs
-
-part-mix-row-start : tie.Need-part-mix-row-start
-part-mix-row-start c = search needs
-
 part-mix-row-end : tie.Need-part-mix-row-end
 part-mix-row-end c = omega (arith, permutation-inside (c .before .before .before .before .before .before .before .before .before .before .before))
 
@@ -67,12 +49,6 @@ mix-row-requires c κs =
     let start = c .before .before .before .before .before .before .before .before .before .before .before .before .before in
     let ready = start .pre in
     server-ready _ _ _ _ (ready .given) (start .args .c) (start .args .k) _ _ (ready .column) (ready .offsets-long) (c .before .before .before .before .before .row-offsets .ensures) _ _ (ready .row) (ready .out-long)
-
-same-length : tie.Need-same-length
-same-length c = search needs
-
-same-length-2 : tie.Need-same-length-2
-same-length-2 c = search needs
 
 returns : tie.Need-returns
 returns c =
@@ -85,22 +61,22 @@ pub column-spec : {M : Type 1} → statement M
 column-spec =
     tie.close
     (tie.spec
-    mul-first
+    (λ c. search needs)
     mul-first-2
-    mul-last
+    (λ c. search needs)
     add-last
     mul-row-offsets
-    sub-row-offsets
-    part-row-offsets-start
+    (λ c. search needs)
+    (λ c. search needs)
     part-row-offsets-end
     row-offsets-requires
     mul-from
     add-to
     mul-mix-row
-    sub-mix-row
-    part-mix-row-start
+    (λ c. search needs)
+    (λ c. search needs)
     part-mix-row-end
     mix-row-requires
-    same-length
-    same-length-2
+    (λ c. search needs)
+    (λ c. search needs)
     returns)

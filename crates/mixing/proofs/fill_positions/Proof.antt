@@ -21,21 +21,6 @@ loop-holds c = (omega arith, (omega arith, λ x l. absurd (omega arith)))
 source-of-requires : tie.Need-source-of-requires Inv-loop μ-loop
 source-of-requires c κs = (c .before .before .before .before .pre .0, omega arith)
 
-cast-out : tie.Need-cast-out Inv-loop μ-loop
-cast-out c = omega arith
-
-mul-out : tie.Need-mul-out Inv-loop μ-loop
-mul-out c = omega arith
-
-slice-write-out : tie.Need-slice-write-out Inv-loop μ-loop
-slice-write-out c = omega arith
-
-add-i : tie.Need-add-i Inv-loop μ-loop
-add-i c = omega arith
-
-loop-less : tie.Need-loop-less Inv-loop μ-loop
-loop-less c = omega arith
-
 loop-again : tie.Need-loop-again Inv-loop μ-loop
 loop-again c =
     let at = c .before .before in
@@ -43,9 +28,6 @@ loop-again c =
       omega arith,
       (length-set (at .loop .out) (c .source-of .result) (at .loop .i) ∙ long, one-placed _ _ (at .before .before .before .pre .0) (at .loop .out) (at .loop .i) (c .source-of .result) (omega arith) long (c .source-of .ensures .0) (at .loop .inv .1 .1)),
     )
-
-same-length : tie.Need-same-length Inv-loop μ-loop
-same-length c = omega arith
 
 returns : tie.Need-returns Inv-loop μ-loop
 returns c =
@@ -60,11 +42,11 @@ fill-positions-spec =
     μ-loop
     loop-holds
     source-of-requires
-    cast-out
-    mul-out
-    slice-write-out
-    add-i
-    loop-less
+    (λ c. omega arith)
+    (λ c. omega arith)
+    (λ c. omega arith)
+    (λ c. omega arith)
+    (λ c. omega arith)
     loop-again
-    same-length
+    (λ c. omega arith)
     returns)

@@ -31,12 +31,6 @@ add-to c = omega (arith, ends c)
 mul-fill-row : tie.Need-mul-fill-row Inv-loop μ-loop
 mul-fill-row c = omega (arith, ends c)
 
-sub-fill-row : tie.Need-sub-fill-row Inv-loop μ-loop
-sub-fill-row c = omega arith
-
-part-fill-row-start : tie.Need-part-fill-row-start Inv-loop μ-loop
-part-fill-row-start c = omega arith
-
 part-fill-row-end : tie.Need-part-fill-row-end Inv-loop μ-loop
 part-fill-row-end c = omega (arith, ends c)
 
@@ -46,21 +40,12 @@ fill-row-requires c κs =
     let start = at .before .before .before .before in
     (start .pre .0, part-length (at .loop .out) _ (length (start .args .votes .now)) (ends (c .before)))
 
-add-k : tie.Need-add-k Inv-loop μ-loop
-add-k c = omega arith
-
-loop-less : tie.Need-loop-less Inv-loop μ-loop
-loop-less c = omega arith
-
 loop-again : tie.Need-loop-again Inv-loop μ-loop
 loop-again c =
     let at = c .before .before .before .before .before in
     let start = at .before .before .before .before in
     let long = start .pre .1 in
     (omega arith, row-written _ _ (at .loop .k) long (omega arith) (at .loop .inv .1) (c .before .before .fill-row .ensures))
-
-same-length : tie.Need-same-length Inv-loop μ-loop
-same-length c = omega arith
 
 returns : tie.Need-returns Inv-loop μ-loop
 returns c =
@@ -79,12 +64,12 @@ fill-rows-spec =
     mul-from
     add-to
     mul-fill-row
-    sub-fill-row
-    part-fill-row-start
+    (λ c. omega arith)
+    (λ c. omega arith)
     part-fill-row-end
     fill-row-requires
-    add-k
-    loop-less
+    (λ c. omega arith)
+    (λ c. omega arith)
     loop-again
-    same-length
+    (λ c. omega arith)
     returns)

@@ -11,9 +11,6 @@ sum-of-halves-requires c κs = λ k l. c .pre k l .0
 sum-of-halves-requires-2 : tie.Need-sum-of-halves-requires-2
 sum-of-halves-requires-2 c κs = λ k l. c .before .pre k l .1
 
-minus-requires : tie.Need-minus-requires
-minus-requires c κs = search needs
-
 returns : tie.Need-returns
 returns c =
     let ballot = c .before .before .sum-of-halves .ensures .0 in
@@ -22,4 +19,4 @@ returns c =
 
 pub link-shift-spec : {M : Type 1} → statement M
 link-shift-spec =
-    tie.close (tie.spec sum-of-halves-requires sum-of-halves-requires-2 minus-requires returns)
+    tie.close (tie.spec sum-of-halves-requires sum-of-halves-requires-2 (λ c κs. search needs) returns)

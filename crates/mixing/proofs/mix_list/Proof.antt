@@ -8,14 +8,8 @@ use lib.Seq.{length-take-le}
 use Rattle.mixing.proofs.mix_list.Statement.{statement}
 use Rattle.mixing.proofs.mix_list.Tie as tie
 
-array-borrow-prefix-offsets : tie.Need-array-borrow-prefix-offsets
-array-borrow-prefix-offsets c = search needs
-
 slice-aggregate-mix-rows : tie.Need-slice-aggregate-mix-rows
 slice-aggregate-mix-rows c = sym (length-take-le (c .before .before .before .before .before .args .n) (replicate 1024 0) (omega (arith, c .before .before .before .before .before .pre .given .few)))
-
-array-borrow-prefix-between : tie.Need-array-borrow-prefix-between
-array-borrow-prefix-between c = search needs
 
 slice-aggregate-mix-rows-2 : tie.Need-slice-aggregate-mix-rows-2
 slice-aggregate-mix-rows-2 c = sym (length-take-le (c .before .before .before .before .before .before .args .n) (replicate 1024 0) (omega (arith, c .before .before .before .before .before .before .pre .given .few)))
@@ -26,20 +20,14 @@ mix-rows-requires c κs =
     let room : length {A = ℕ} (take (start .args .n) (replicate 1024 0)) ≡ start .args .n = length-take-le (start .args .n) (replicate 1024 0) (omega (arith, start .pre .given .few)) in
     (start .pre, (room, room))
 
-same-length : tie.Need-same-length
-same-length c = search needs
-
-returns : tie.Need-returns
-returns c = search needs
-
 pub mix-list-spec : {M : Type 1} → statement M
 mix-list-spec =
     tie.close
     (tie.spec
-    array-borrow-prefix-offsets
+    (λ c. search needs)
     slice-aggregate-mix-rows
-    array-borrow-prefix-between
+    (λ c. search needs)
     slice-aggregate-mix-rows-2
     mix-rows-requires
-    same-length
-    returns)
+    (λ c. search needs)
+    (λ c. search needs))

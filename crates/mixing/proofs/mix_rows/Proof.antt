@@ -40,23 +40,11 @@ add-to c = omega (arith, inside c)
 mul-through : tie.Need-mul-through Inv-loop μ-loop
 mul-through c = omega (arith, inside c)
 
-sub-through : tie.Need-sub-through Inv-loop μ-loop
-sub-through c = omega arith
-
-part-through-start : tie.Need-part-through-start Inv-loop μ-loop
-part-through-start c = omega arith
-
 part-through-end : tie.Need-part-through-end Inv-loop μ-loop
 part-through-end c = omega (arith, inside c)
 
 mul-through-2 : tie.Need-mul-through-2 Inv-loop μ-loop
 mul-through-2 c = omega (arith, inside (c .before .before .before))
-
-sub-through-2 : tie.Need-sub-through-2 Inv-loop μ-loop
-sub-through-2 c = omega arith
-
-part-through-start-2 : tie.Need-part-through-start-2 Inv-loop μ-loop
-part-through-start-2 c = omega arith
 
 part-through-end-2 : tie.Need-part-through-end-2 Inv-loop μ-loop
 part-through-end-2 c = omega (arith, inside (c .before .before .before))
@@ -101,12 +89,6 @@ loop-again c =
       ),
     )
 
-same-length : tie.Need-same-length Inv-loop μ-loop
-same-length c = omega arith
-
-same-length-2 : tie.Need-same-length-2 Inv-loop μ-loop
-same-length-2 c = omega arith
-
 same-length-3 : tie.Need-same-length-3 Inv-loop μ-loop
 same-length-3 c = c .before .loop .inv .1 .1 .1 .long
 
@@ -126,18 +108,18 @@ mix-rows-spec =
     mul-from
     add-to
     mul-through
-    sub-through
-    part-through-start
+    (λ c. omega arith)
+    (λ c. omega arith)
     part-through-end
     mul-through-2
-    sub-through-2
-    part-through-start-2
+    (λ c. omega arith)
+    (λ c. omega arith)
     part-through-end-2
     through-requires
     add-k
     loop-less
     loop-again
-    same-length
-    same-length-2
+    (λ c. omega arith)
+    (λ c. omega arith)
     same-length-3
     returns)

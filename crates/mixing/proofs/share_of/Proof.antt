@@ -11,16 +11,10 @@ returns c = (share-first _ _ _ _ _ (c .if1 .taken), search needs)
 returns-2 : tie.Need-returns-2
 returns-2 c = (share-second _ _ _ _ _ (c .if2 .taken), search needs)
 
-minus-requires : tie.Need-minus-requires
-minus-requires c κs = search needs
-
-minus-requires-2 : tie.Need-minus-requires-2
-minus-requires-2 c κs = search needs
-
 returns-3 : tie.Need-returns-3
 returns-3 c =
     let less = c .before .minus .ensures .0 in
     (rw less at (c .minus2 .ensures .0) ∙ share-third _ _ _ _ _ (c .before .before .before .if1 .left) (c .before .before .if2 .left), c .minus2 .ensures .1)
 
 pub share-of-spec : {M : Type 1} → statement M
-share-of-spec = tie.close (tie.spec returns returns-2 minus-requires minus-requires-2 returns-3)
+share-of-spec = tie.close (tie.spec returns returns-2 (λ c κs. search needs) (λ c κs. search needs) returns-3)

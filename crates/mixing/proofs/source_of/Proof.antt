@@ -19,18 +19,6 @@ second c = second-below _ _ (c .pre .0) (c .args .i) (c .pre .1)
 first : (c : tie.Start) → item (c .args .permutations .now) (item (c .args .permutations .now) (c .args .n + item (c .args .permutations .now) (2 * c .args .n + c .args .i))) < c .args .n
 first c = first-below _ _ (c .pre .0) (c .args .i) (c .pre .1)
 
-mul-third : tie.Need-mul-third
-mul-third c = search needs
-
-add-third : tie.Need-add-third
-add-third c = search needs
-
-mul-third-2 : tie.Need-mul-third-2
-mul-third-2 c = search needs
-
-shared-slice-read-third : tie.Need-shared-slice-read-third
-shared-slice-read-third c = search needs
-
 cast-third : tie.Need-cast-third
 cast-third c = omega (arith, third (c .before))
 
@@ -63,10 +51,10 @@ pub source-of-spec : {M : Type 1} → statement M
 source-of-spec =
     tie.close
     (tie.spec
-    mul-third
-    add-third
-    mul-third-2
-    shared-slice-read-third
+    (λ c. search needs)
+    (λ c. search needs)
+    (λ c. search needs)
+    (λ c. search needs)
     cast-third
     add-second
     mul-second

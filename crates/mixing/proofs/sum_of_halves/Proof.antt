@@ -4,17 +4,8 @@ use borrow.Author.Needs.{needs}
 use Rattle.mixing.proofs.sum_of_halves.Statement.{statement}
 use Rattle.mixing.proofs.sum_of_halves.Tie as tie
 
-array-read-plus : tie.Need-array-read-plus
-array-read-plus c = search needs
-
-array-read-plus-2 : tie.Need-array-read-plus-2
-array-read-plus-2 c = search needs
-
 plus-requires : tie.Need-plus-requires
 plus-requires c κs = (c .pre 0 (omega arith), c .pre 1 (omega arith))
-
-array-read-plus-3 : tie.Need-array-read-plus-3
-array-read-plus-3 c = search needs
 
 plus-requires-2 : tie.Need-plus-requires-2
 plus-requires-2 c κs = (c .plus .ensures .1, c .before .pre 2 (omega arith))
@@ -28,9 +19,9 @@ pub sum-of-halves-spec : {M : Type 1} → statement M
 sum-of-halves-spec =
     tie.close
     (tie.spec
-    array-read-plus
-    array-read-plus-2
+    (λ c. search needs)
+    (λ c. search needs)
     plus-requires
-    array-read-plus-3
+    (λ c. search needs)
     plus-requires-2
     returns)

@@ -6,9 +6,6 @@ use Rattle.mixing.proofs.Columns.{column-row, three-columns}
 use Rattle.mixing.proofs.through.Statement.{statement}
 use Rattle.mixing.proofs.through.Tie as tie
 
-column-requires : tie.Need-column-requires
-column-requires c κs = search needs
-
 column-requires-2 : tie.Need-column-requires-2
 column-requires-2 c κs =
     let start = c .before .before .before .before .before .before .before .before .before .before .before .before .before .before .before .before in
@@ -34,15 +31,6 @@ column-requires-3 c κs =
       out-long = omega (arith, first .kept .1 .1 .1 .1 .1 .1 .1 .1 .0, start .pre .out-long);
     }
 
-same-length : tie.Need-same-length
-same-length c = search needs
-
-same-length-2 : tie.Need-same-length-2
-same-length-2 c = search needs
-
-same-length-3 : tie.Need-same-length-3
-same-length-3 c = search needs
-
 returns : tie.Need-returns
 returns c =
     let start = c .before .before .before .before .before .before .before .before .before .before .before .before .before .before .before .before .before .before .before .before .before .before .before .before .before .before .before .before .before in
@@ -52,10 +40,10 @@ pub through-spec : {M : Type 1} → statement M
 through-spec =
     tie.close
     (tie.spec
-    column-requires
+    (λ c κs. search needs)
     column-requires-2
     column-requires-3
-    same-length
-    same-length-2
-    same-length-3
+    (λ c. search needs)
+    (λ c. search needs)
+    (λ c. search needs)
     returns)

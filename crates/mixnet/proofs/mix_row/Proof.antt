@@ -21,12 +21,6 @@ inside c = c .before .before .before .before .before .before .pre .places (c .be
 loop-holds : tie.Need-loop-holds Inv-loop μ-loop
 loop-holds c = (omega arith, none-filled _ _)
 
-mul-from : tie.Need-mul-from Inv-loop μ-loop
-mul-from c = omega arith
-
-shared-slice-read-from : tie.Need-shared-slice-read-from Inv-loop μ-loop
-shared-slice-read-from c = omega arith
-
 cast-from : tie.Need-cast-from Inv-loop μ-loop
 cast-from c = omega (arith, c .shared-slice-known4 .given (c .before .before .loop .i))
 
@@ -54,18 +48,9 @@ mul-out c = omega (arith, inside (c .before .before .before .before))
 slice-write-out : tie.Need-slice-write-out Inv-loop μ-loop
 slice-write-out c = omega (arith, inside (c .before .before .before .before))
 
-add-i : tie.Need-add-i Inv-loop μ-loop
-add-i c = omega arith
-
-loop-less : tie.Need-loop-less Inv-loop μ-loop
-loop-less c = omega arith
-
 loop-again : tie.Need-loop-again Inv-loop μ-loop
 unfolding row
 loop-again c = (omega arith, one-filled (c .plus .result) (c .before .before .before .before .before .loop .inv .1) (omega arith) (c .plus .ensures .0))
-
-same-length : tie.Need-same-length Inv-loop μ-loop
-same-length c = omega arith
 
 returns : tie.Need-returns Inv-loop μ-loop
 unfolding rowServer
@@ -78,8 +63,8 @@ mix-row-spec =
     Inv-loop
     μ-loop
     loop-holds
-    mul-from
-    shared-slice-read-from
+    (λ c. omega arith)
+    (λ c. omega arith)
     cast-from
     mul-plus
     shared-slice-read-plus
@@ -88,8 +73,8 @@ mix-row-spec =
     plus-requires
     mul-out
     slice-write-out
-    add-i
-    loop-less
+    (λ c. omega arith)
+    (λ c. omega arith)
     loop-again
-    same-length
+    (λ c. omega arith)
     returns)

@@ -18,15 +18,9 @@ limits c = and-iff _ _ .1 (held (c .before .before .before .modulus-in-limits .e
 lengths : (c : tie.Else5) → let s = c .before .before .before .before .before .before .before .before .before .args in (equal (length (s .first .now)) (s .n) and equal (length (s .second .now)) (s .n) and equal (s .out-len) (s .n)) ≡ true
 lengths c = and-iff _ _ .1 (is-equal (omega arith), and-iff _ _ .1 (is-equal (omega arith), is-equal (omega arith)))
 
-modulus-in-limits-requires : tie.Need-modulus-in-limits-requires
-modulus-in-limits-requires c κs = search needs
-
 returns : tie.Need-returns
 unfolding pairRefusal
 returns c = rule-stop _ _ _ (sym (and-stop _ _ (failed (c .before .modulus-in-limits .ensures) (c .if1 .taken))))
-
-ballots-in-limits-requires : tie.Need-ballots-in-limits-requires
-ballots-in-limits-requires c κs = search needs
 
 returns-2 : tie.Need-returns-2
 unfolding pairRefusal
@@ -46,17 +40,11 @@ returns-5 : tie.Need-returns-5
 unfolding pairRefusal
 returns-5 c = rule-go _ _ _ (limits (c .before .before .before)) (rule-stop _ _ _ (sym (and-go _ _ (is-equal (omega arith)) (and-go _ _ (is-equal (omega arith)) (sym (not-equal (omega arith)))))))
 
-all-below-requires : tie.Need-all-below-requires
-all-below-requires c κs = search needs
-
 returns-6 : tie.Need-returns-6
 unfolding pairRefusal
 returns-6 c =
     rule-go _ _ _ (limits (c .before .before .before .before .before))
     (rule-go _ _ _ (lengths (c .before .before)) (rule-stop _ _ _ (sym (and-stop _ _ (failed (c .before .all-below .ensures) (c .if6 .taken))))))
-
-all-below-requires-2 : tie.Need-all-below-requires-2
-all-below-requires-2 c κs = search needs
 
 returns-7 : tie.Need-returns-7
 unfolding pairRefusal
@@ -78,15 +66,15 @@ pub refuse-pair-spec : {M : Type 1} → statement M
 refuse-pair-spec =
     tie.close
     (tie.spec
-    modulus-in-limits-requires
+    (λ c κs. search needs)
     returns
-    ballots-in-limits-requires
+    (λ c κs. search needs)
     returns-2
     returns-3
     returns-4
     returns-5
-    all-below-requires
+    (λ c κs. search needs)
     returns-6
-    all-below-requires-2
+    (λ c κs. search needs)
     returns-7
     returns-8)

@@ -22,15 +22,9 @@ lengths c = and-iff _ _ .1 (is-equal (omega arith), and-iff _ _ .1 (is-equal (om
 small : (c : tie.Else8) → let s = c .before .before .before .before .before .before .before .before .before .before .before .before .before .before .before .args in (allBelow (s .modulus) (s .numbers .now) and allBelow (s .modulus) (s .offsets .now)) ≡ true
 small c = and-iff _ _ .1 (held (c .before .before .before .all-below .ensures) (c .before .before .if7 .left), held (c .before .all-below2 .ensures) (c .if8 .left))
 
-modulus-in-limits-requires : tie.Need-modulus-in-limits-requires
-modulus-in-limits-requires c κs = search needs
-
 returns : tie.Need-returns
 unfolding rowRefusal
 returns c = rule-stop _ _ _ (sym (and-stop _ _ (failed (c .before .modulus-in-limits .ensures) (c .if1 .taken))))
-
-ballots-in-limits-requires : tie.Need-ballots-in-limits-requires
-ballots-in-limits-requires c κs = search needs
 
 returns-2 : tie.Need-returns-2
 unfolding rowRefusal
@@ -54,17 +48,11 @@ returns-6 : tie.Need-returns-6
 unfolding rowRefusal
 returns-6 c = rule-go _ _ _ (limits (c .before .before .before .before)) (rule-stop _ _ _ (sym (and-go _ _ (is-equal (omega arith)) (and-go _ _ (is-equal (omega arith)) (and-go _ _ (is-equal (omega arith)) (sym (not-equal (omega arith))))))))
 
-all-below-requires : tie.Need-all-below-requires
-all-below-requires c κs = search needs
-
 returns-7 : tie.Need-returns-7
 unfolding rowRefusal
 returns-7 c =
     rule-go _ _ _ (limits (c .before .before .before .before .before .before))
     (rule-go _ _ _ (lengths (c .before .before)) (rule-stop _ _ _ (sym (and-stop _ _ (failed (c .before .all-below .ensures) (c .if7 .taken))))))
-
-all-below-requires-2 : tie.Need-all-below-requires-2
-all-below-requires-2 c κs = search needs
 
 returns-8 : tie.Need-returns-8
 unfolding rowRefusal
@@ -95,17 +83,17 @@ pub refuse-row-spec : {M : Type 1} → statement M
 refuse-row-spec =
     tie.close
     (tie.spec
-    modulus-in-limits-requires
+    (λ c κs. search needs)
     returns
-    ballots-in-limits-requires
+    (λ c κs. search needs)
     returns-2
     returns-3
     returns-4
     returns-5
     returns-6
-    all-below-requires
+    (λ c κs. search needs)
     returns-7
-    all-below-requires-2
+    (λ c κs. search needs)
     returns-8
     is-permutation-requires
     returns-9

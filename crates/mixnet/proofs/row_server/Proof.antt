@@ -5,21 +5,15 @@ use Rattle.mixnet.proofs.Unrefused.{row-ready}
 use Rattle.mixnet.proofs.row_server.Statement.{statement}
 use Rattle.mixnet.proofs.row_server.Tie as tie
 
-refuse-row-requires : tie.Need-refuse-row-requires
-refuse-row-requires c κs = search needs
-
 returns : tie.Need-returns
 returns c = refused _ _ _ _ (c .before .refuse-row .ensures) (c .if1 .taken)
 
 mix-row-requires : tie.Need-mix-row-requires
 mix-row-requires c κs = row-ready _ _ _ _ _ _ _ (c .before .before .refuse-row .ensures) (c .before .if1 .left)
 
-same-length : tie.Need-same-length
-same-length c = search needs
-
 returns-2 : tie.Need-returns-2
 returns-2 c = done _ _ _ _ _ (c .before .before .before .before .before .refuse-row .ensures) (c .before .before .before .before .if1 .left) (c .before .before .mix-row .ensures)
 
 pub row-server-spec : {M : Type 1} → statement M
 row-server-spec =
-    tie.close (tie.spec refuse-row-requires returns mix-row-requires same-length returns-2)
+    tie.close (tie.spec (λ c κs. search needs) returns mix-row-requires (λ c. search needs) returns-2)

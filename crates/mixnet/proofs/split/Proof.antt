@@ -5,21 +5,15 @@ use Rattle.mixnet.proofs.Unrefused.{pair-ready}
 use Rattle.mixnet.proofs.split.Statement.{statement}
 use Rattle.mixnet.proofs.split.Tie as tie
 
-refuse-pair-requires : tie.Need-refuse-pair-requires
-refuse-pair-requires c κs = search needs
-
 returns : tie.Need-returns
 returns c = refused _ _ _ _ (c .before .refuse-pair .ensures) (c .if1 .taken)
 
 split-row-requires : tie.Need-split-row-requires
 split-row-requires c κs = pair-ready _ _ _ _ _ _ (c .before .before .refuse-pair .ensures) (c .before .if1 .left)
 
-same-length : tie.Need-same-length
-same-length c = search needs
-
 returns-2 : tie.Need-returns-2
 returns-2 c = done _ _ _ _ _ (c .before .before .before .before .before .refuse-pair .ensures) (c .before .before .before .before .if1 .left) (c .before .before .split-row .ensures)
 
 pub split-spec : {M : Type 1} → statement M
 split-spec =
-    tie.close (tie.spec refuse-pair-requires returns split-row-requires same-length returns-2)
+    tie.close (tie.spec (λ c κs. search needs) returns split-row-requires (λ c. search needs) returns-2)

@@ -17,40 +17,13 @@ abbrev μ-loop : tie.MeasureT-loop
 loop-holds : tie.Need-loop-holds Inv-loop μ-loop
 loop-holds c = (omega arith, none-filled _ _)
 
-mul-minus : tie.Need-mul-minus Inv-loop μ-loop
-mul-minus c = omega arith
-
-shared-slice-read-minus : tie.Need-shared-slice-read-minus Inv-loop μ-loop
-shared-slice-read-minus c = omega arith
-
-mul-minus-2 : tie.Need-mul-minus-2 Inv-loop μ-loop
-mul-minus-2 c = omega arith
-
-shared-slice-read-minus-2 : tie.Need-shared-slice-read-minus-2 Inv-loop μ-loop
-shared-slice-read-minus-2 c = omega arith
-
 minus-requires : tie.Need-minus-requires Inv-loop μ-loop
 minus-requires c κs =
     let ready = c .before .before .before .before .before .before .before .pre in
     (ready .first-below _ (omega arith), ready .second-below _ (omega arith))
 
-mul-out : tie.Need-mul-out Inv-loop μ-loop
-mul-out c = omega arith
-
-slice-write-out : tie.Need-slice-write-out Inv-loop μ-loop
-slice-write-out c = omega arith
-
-add-i : tie.Need-add-i Inv-loop μ-loop
-add-i c = omega arith
-
-loop-less : tie.Need-loop-less Inv-loop μ-loop
-loop-less c = omega arith
-
 loop-again : tie.Need-loop-again Inv-loop μ-loop
 loop-again c = (omega arith, one-filled (c .minus .result) (c .before .before .before .before .loop .inv .1) (omega arith) (c .minus .ensures .0))
-
-same-length : tie.Need-same-length Inv-loop μ-loop
-same-length c = omega arith
 
 returns : tie.Need-returns Inv-loop μ-loop
 unfolding secondHalves
@@ -63,15 +36,15 @@ split-row-spec =
     Inv-loop
     μ-loop
     loop-holds
-    mul-minus
-    shared-slice-read-minus
-    mul-minus-2
-    shared-slice-read-minus-2
+    (λ c. omega arith)
+    (λ c. omega arith)
+    (λ c. omega arith)
+    (λ c. omega arith)
     minus-requires
-    mul-out
-    slice-write-out
-    add-i
-    loop-less
+    (λ c. omega arith)
+    (λ c. omega arith)
+    (λ c. omega arith)
+    (λ c. omega arith)
     loop-again
-    same-length
+    (λ c. omega arith)
     returns)

@@ -8,14 +8,8 @@ use Rattle.modular.proofs.minus.Tie as tie
 returns : tie.Need-returns
 returns c = (minus-over _ _ _ (omega arith) (omega arith), omega arith)
 
-sub-result : tie.Need-sub-result
-sub-result c = search needs
-
-add-result : tie.Need-add-result
-add-result c = search needs
-
 returns-2 : tie.Need-returns-2
 returns-2 c = (minus-under _ _ _ (omega arith) (omega arith), omega arith)
 
 pub minus-spec : {M : Type 1} → statement M
-minus-spec = tie.close (tie.spec returns sub-result add-result returns-2)
+minus-spec = tie.close (tie.spec returns (λ c. search needs) (λ c. search needs) returns-2)

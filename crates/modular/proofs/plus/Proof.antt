@@ -5,17 +5,11 @@ use Rattle.laws.specs.Modular.{plus-over, plus-under}
 use Rattle.modular.proofs.plus.Statement.{statement}
 use Rattle.modular.proofs.plus.Tie as tie
 
-sub-room : tie.Need-sub-room
-sub-room c = search needs
-
 returns : tie.Need-returns
 returns c = (plus-over _ _ _ (omega arith) (omega arith) (omega arith), omega arith)
-
-add-result : tie.Need-add-result
-add-result c = search needs
 
 returns-2 : tie.Need-returns-2
 returns-2 c = (plus-under _ _ _ (omega arith), omega arith)
 
 pub plus-spec : {M : Type 1} → statement M
-plus-spec = tie.close (tie.spec sub-room returns add-result returns-2)
+plus-spec = tie.close (tie.spec (λ c. search needs) returns (λ c. search needs) returns-2)

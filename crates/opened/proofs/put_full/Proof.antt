@@ -20,41 +20,8 @@ abbrev μ-loop : tie.MeasureT-loop
 loop-holds : tie.Need-loop-holds Inv-loop μ-loop
 loop-holds c = (omega arith, start _ _ (omega arith))
 
-mul-from : tie.Need-mul-from Inv-loop μ-loop
-mul-from c = omega arith
-
-mul-from-2 : tie.Need-mul-from-2 Inv-loop μ-loop
-mul-from-2 c = omega arith
-
-add-from : tie.Need-add-from Inv-loop μ-loop
-add-from c = omega arith
-
-mul-from-3 : tie.Need-mul-from-3 Inv-loop μ-loop
-mul-from-3 c = omega arith
-
-add-from-2 : tie.Need-add-from-2 Inv-loop μ-loop
-add-from-2 c = omega arith
-
-add-to : tie.Need-add-to Inv-loop μ-loop
-add-to c = omega arith
-
 entry-split-requires : tie.Need-entry-split-requires Inv-loop μ-loop
 entry-split-requires c κs = (c .before .before .before .before .before .before .pre .0, omega arith)
-
-cast-put-full : tie.Need-cast-put-full Inv-loop μ-loop
-cast-put-full c = omega arith
-
-cast-put-full-2 : tie.Need-cast-put-full-2 Inv-loop μ-loop
-cast-put-full-2 c = omega arith
-
-sub-put-full : tie.Need-sub-put-full Inv-loop μ-loop
-sub-put-full c = omega arith
-
-part-put-full-start : tie.Need-part-put-full-start Inv-loop μ-loop
-part-put-full-start c = omega arith
-
-part-put-full-end : tie.Need-part-put-full-end Inv-loop μ-loop
-part-put-full-end c = omega arith
 
 put-full-requires : tie.Need-put-full-requires Inv-loop μ-loop
 put-full-requires c κs =
@@ -68,12 +35,6 @@ put-full-requires c κs =
       ),
     )
 
-add-i : tie.Need-add-i Inv-loop μ-loop
-add-i c = omega arith
-
-loop-less : tie.Need-loop-less Inv-loop μ-loop
-loop-less c = omega arith
-
 loop-again : tie.Need-loop-again Inv-loop μ-loop
 loop-again c =
     let s = c .before .before .before .before .before .before .before .before .before .before .before .before .args in
@@ -82,9 +43,6 @@ loop-again c =
       go-turn (λ i. fullCommand (s .l) i (entryOpeningIn (s .modulus) (s .n) (s .mixed .now) (s .numbers .now) (s .keys .now) (s .l) i)) (g .i) (g .inv .1)
           (go-same (c .before .before .put-full .ensures) (ap (fullCommand (s .l) (g .i)) (entry-openings (s .modulus) (s .n) (s .mixed .now) (s .numbers .now) (s .keys .now) (s .l) (g .i) (c .before .before .before .before .before .entry-split .ensures .0)))),
     )
-
-same-length : tie.Need-same-length Inv-loop μ-loop
-same-length c = omega arith
 
 returns : tie.Need-returns Inv-loop μ-loop
 returns c =
@@ -98,21 +56,21 @@ put-full-spec =
     Inv-loop
     μ-loop
     loop-holds
-    mul-from
-    mul-from-2
-    add-from
-    mul-from-3
-    add-from-2
-    add-to
+    (λ c. omega arith)
+    (λ c. omega arith)
+    (λ c. omega arith)
+    (λ c. omega arith)
+    (λ c. omega arith)
+    (λ c. omega arith)
     entry-split-requires
-    cast-put-full
-    cast-put-full-2
-    sub-put-full
-    part-put-full-start
-    part-put-full-end
+    (λ c. omega arith)
+    (λ c. omega arith)
+    (λ c. omega arith)
+    (λ c. omega arith)
+    (λ c. omega arith)
     put-full-requires
-    add-i
-    loop-less
+    (λ c. omega arith)
+    (λ c. omega arith)
     loop-again
-    same-length
+    (λ c. omega arith)
     returns)

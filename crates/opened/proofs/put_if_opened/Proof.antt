@@ -9,12 +9,6 @@ use Rattle.opened.proofs.Opened.{opened-one, when-clear, when-set}
 use Rattle.opened.proofs.put_if_opened.Statement.{statement}
 use Rattle.opened.proofs.put_if_opened.Tie as tie
 
-cast-if1 : tie.Need-cast-if1
-cast-if1 c = search needs
-
-shr-if1 : tie.Need-shr-if1
-shr-if1 c = search needs
-
 returns : tie.Need-returns
 returns c =
     let s = c .before .before .before .before .before in
@@ -25,9 +19,6 @@ put-full-requires c κs =
     let s = c .before .before .before .before .before .before in
     (s .pre .0, (s .pre .1 .0, opened-one (bit (s .args .mask) (s .args .l)) (s .args .at) (s .args .n * 220) (c .before .if1 .left) (s .pre .1 .1)))
 
-same-length : tie.Need-same-length
-same-length c = search needs
-
 returns-2 : tie.Need-returns-2
 returns-2 c =
     let s = c .before .before .before .before .before .before .before .before .before .args in
@@ -35,4 +26,4 @@ returns-2 c =
 
 pub put-if-opened-spec : {M : Type 1} → statement M
 put-if-opened-spec =
-    tie.close (tie.spec cast-if1 shr-if1 returns put-full-requires same-length returns-2)
+    tie.close (tie.spec (λ c. search needs) (λ c. search needs) returns put-full-requires (λ c. search needs) returns-2)

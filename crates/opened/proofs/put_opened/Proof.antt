@@ -20,9 +20,6 @@ Inv-loop out₀ at p mask mixed numbers keys lists next₀ l₀ out next l = (l 
 abbrev μ-loop : tie.MeasureT-loop
 μ-loop out₀ at p mask mixed numbers keys lists next₀ l₀ out next l = lists - l
 
-mul-lists : tie.Need-mul-lists Inv-loop μ-loop
-mul-lists c = omega arith
-
 loop-holds : tie.Need-loop-holds Inv-loop μ-loop
 loop-holds c = (omega arith, start _ _ (omega arith))
 
@@ -40,12 +37,6 @@ put-if-opened-requires c κs =
       ),
     )
 
-add-l : tie.Need-add-l Inv-loop μ-loop
-add-l c = omega arith
-
-loop-less : tie.Need-loop-less Inv-loop μ-loop
-loop-less c = omega arith
-
 loop-again : tie.Need-loop-again Inv-loop μ-loop
 loop-again c =
     let s = c .before .before .before .before .before .before .before .before .before .before .before .args in
@@ -54,9 +45,6 @@ loop-again c =
       omega arith,
       go-turn (λ l. choose (bit (s .mask) l) (fullIn (p .modulus) (p .ballots) (s .mixed .now) (s .numbers .now) (s .keys .now) l (p .ballots)) []) (g .l) (g .inv .1) (c .before .before .put-if-opened .ensures),
     )
-
-same-length : tie.Need-same-length Inv-loop μ-loop
-same-length c = omega arith
 
 returns : tie.Need-returns Inv-loop μ-loop
 returns c =
@@ -69,11 +57,11 @@ put-opened-spec =
     (tie.spec
     Inv-loop
     μ-loop
-    mul-lists
+    (λ c. omega arith)
     loop-holds
     put-if-opened-requires
-    add-l
-    loop-less
+    (λ c. omega arith)
+    (λ c. omega arith)
     loop-again
-    same-length
+    (λ c. omega arith)
     returns)

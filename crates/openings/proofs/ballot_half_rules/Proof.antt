@@ -96,59 +96,17 @@ past-drawn c =
 
 -- ----
 
-add-read2 : tie.Need-add-read2
-add-read2 c = search needs
-
-read2-requires : tie.Need-read2-requires
-read2-requires c κs = search needs
-
-cast-if1 : tie.Need-cast-if1
-cast-if1 c = search needs
-
 returns : tie.Need-returns
 returns c = breaks 4 _ _ (begun (c .before .before .before)) (not-equal (λ e. omega arith))
-
-add-numbers-below : tie.Need-add-numbers-below
-add-numbers-below c = search needs
-
-numbers-below-requires : tie.Need-numbers-below-requires
-numbers-below-requires c κs = search needs
 
 returns-2 : tie.Need-returns-2
 returns-2 c = breaks 10 _ _ (past-ballot (c .before .before)) (sym (c .before .numbers-below .ensures) ∙ not-true _ (c .if2 .taken))
 
-add-read1 : tie.Need-add-read1
-add-read1 c = search needs
-
-read1-requires : tie.Need-read1-requires
-read1-requires c κs = search needs
-
 returns-3 : tie.Need-returns-3
 returns-3 c = breaks 11 _ _ (past-numbers (c .before .before)) (not-atMost (omega (arith, side-read (c .before))))
 
-drawn-side-requires : tie.Need-drawn-side-requires
-drawn-side-requires c κs = search needs
-
 returns-4 : tie.Need-returns-4
 returns-4 c = breaks 12 _ _ (past-side (c .before .before .before)) (implies-on _ _ (c .before .before .if4 .taken) ∙ not-equal (λ e. omega (arith, drawn-read (c .before), side-read (c .before .before .before .before))))
-
-at-ballot-requires : tie.Need-at-ballot-requires
-at-ballot-requires c κs = search needs
-
-add-posted : tie.Need-add-posted
-add-posted c = search needs
-
-cast-posted : tie.Need-cast-posted
-cast-posted c = search needs
-
-mul-posted : tie.Need-mul-posted
-mul-posted c = search needs
-
-add-posted-2 : tie.Need-add-posted-2
-add-posted-2 c = search needs
-
-add-openings-give : tie.Need-add-openings-give
-add-openings-give c = search needs
 
 openings-give-requires : tie.Need-openings-give-requires
 openings-give-requires c κs =
@@ -169,24 +127,24 @@ pub ballot-half-rules-spec : {M : Type 1} → statement M
 ballot-half-rules-spec =
     tie.close
     (tie.spec
-    add-read2
-    read2-requires
-    cast-if1
+    (λ c. search needs)
+    (λ c κs. search needs)
+    (λ c. search needs)
     returns
-    add-numbers-below
-    numbers-below-requires
+    (λ c. search needs)
+    (λ c κs. search needs)
     returns-2
-    add-read1
-    read1-requires
+    (λ c. search needs)
+    (λ c κs. search needs)
     returns-3
-    drawn-side-requires
+    (λ c κs. search needs)
     returns-4
-    at-ballot-requires
-    add-posted
-    cast-posted
-    mul-posted
-    add-posted-2
-    add-openings-give
+    (λ c κs. search needs)
+    (λ c. search needs)
+    (λ c. search needs)
+    (λ c. search needs)
+    (λ c. search needs)
+    (λ c. search needs)
     openings-give-requires
     returns-5
     returns-6)

@@ -22,35 +22,11 @@ abbrev μ-loop : tie.MeasureT-loop
 loop-holds : tie.Need-loop-holds Inv-loop μ-loop
 loop-holds c = (omega arith, none-filled _ _)
 
-mul-sum-of-six : tie.Need-mul-sum-of-six Inv-loop μ-loop
-mul-sum-of-six c = omega arith
-
-add-sum-of-six : tie.Need-add-sum-of-six Inv-loop μ-loop
-add-sum-of-six c = omega arith
-
-add-sum-of-six-2 : tie.Need-add-sum-of-six-2 Inv-loop μ-loop
-add-sum-of-six-2 c = omega arith
-
 sum-of-six-requires : tie.Need-sum-of-six-requires Inv-loop μ-loop
 sum-of-six-requires c κs = (omega arith, c .before .before .before .before .pre .numbers (c .before .loop .i) (omega arith))
 
-mul-out : tie.Need-mul-out Inv-loop μ-loop
-mul-out c = omega arith
-
-slice-write-out : tie.Need-slice-write-out Inv-loop μ-loop
-slice-write-out c = omega arith
-
-add-i : tie.Need-add-i Inv-loop μ-loop
-add-i c = omega arith
-
-loop-less : tie.Need-loop-less Inv-loop μ-loop
-loop-less c = omega arith
-
 loop-again : tie.Need-loop-again Inv-loop μ-loop
 loop-again c = (omega arith, one-filled _ (c .before .before .loop .inv .1) (omega arith) (c .sum-of-six .ensures .0))
-
-same-length : tie.Need-same-length Inv-loop μ-loop
-same-length c = omega arith
 
 returns : tie.Need-returns Inv-loop μ-loop
 returns c = let e : c .before .loop .i ≡ length (c .before .before .before .before .args .out .now) = omega arith in all-filled _ (c .before .loop .inv .1) e refl
@@ -62,14 +38,14 @@ fill-values-spec =
     Inv-loop
     μ-loop
     loop-holds
-    mul-sum-of-six
-    add-sum-of-six
-    add-sum-of-six-2
+    (λ c. omega arith)
+    (λ c. omega arith)
+    (λ c. omega arith)
     sum-of-six-requires
-    mul-out
-    slice-write-out
-    add-i
-    loop-less
+    (λ c. omega arith)
+    (λ c. omega arith)
+    (λ c. omega arith)
+    (λ c. omega arith)
     loop-again
-    same-length
+    (λ c. omega arith)
     returns)

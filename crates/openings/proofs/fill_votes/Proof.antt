@@ -21,35 +21,8 @@ abbrev μ-loop : tie.MeasureT-loop
 loop-holds : tie.Need-loop-holds Inv-loop μ-loop
 loop-holds c = (omega arith, none-filled _ _)
 
-mul-read4 : tie.Need-mul-read4 Inv-loop μ-loop
-mul-read4 c = omega arith
-
-add-read4 : tie.Need-add-read4 Inv-loop μ-loop
-add-read4 c = omega arith
-
-add-read4-2 : tie.Need-add-read4-2 Inv-loop μ-loop
-add-read4-2 c = omega arith
-
-read4-requires : tie.Need-read4-requires Inv-loop μ-loop
-read4-requires c κs = omega arith
-
-mul-out : tie.Need-mul-out Inv-loop μ-loop
-mul-out c = omega arith
-
-slice-write-out : tie.Need-slice-write-out Inv-loop μ-loop
-slice-write-out c = omega arith
-
-add-i : tie.Need-add-i Inv-loop μ-loop
-add-i c = omega arith
-
-loop-less : tie.Need-loop-less Inv-loop μ-loop
-loop-less c = omega arith
-
 loop-again : tie.Need-loop-again Inv-loop μ-loop
 loop-again c = (omega arith, one-filled _ (c .before .before .loop .inv .1) (omega arith) (c .read4 .ensures .0))
-
-same-length : tie.Need-same-length Inv-loop μ-loop
-same-length c = omega arith
 
 returns : tie.Need-returns Inv-loop μ-loop
 returns c = let e : c .before .loop .i ≡ length (c .before .before .before .before .args .out .now) = omega arith in all-filled _ (c .before .loop .inv .1) e refl
@@ -61,14 +34,14 @@ fill-votes-spec =
     Inv-loop
     μ-loop
     loop-holds
-    mul-read4
-    add-read4
-    add-read4-2
-    read4-requires
-    mul-out
-    slice-write-out
-    add-i
-    loop-less
+    (λ c. omega arith)
+    (λ c. omega arith)
+    (λ c. omega arith)
+    (λ c κs. omega arith)
+    (λ c. omega arith)
+    (λ c. omega arith)
+    (λ c. omega arith)
+    (λ c. omega arith)
     loop-again
-    same-length
+    (λ c. omega arith)
     returns)

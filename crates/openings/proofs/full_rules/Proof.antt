@@ -115,47 +115,14 @@ permuted-read c =
 
 -- ----
 
-add-read1 : tie.Need-add-read1
-add-read1 c = search needs
-
-read1-requires : tie.Need-read1-requires
-read1-requires c κs = search needs
-
-cast-if1 : tie.Need-cast-if1
-cast-if1 c = search needs
-
 returns : tie.Need-returns
 returns c = breaks 4 _ _ (begun (c .before .before .before)) (not-equal (λ e. omega arith))
-
-add-read2 : tie.Need-add-read2
-add-read2 c = search needs
-
-read2-requires : tie.Need-read2-requires
-read2-requires c κs = search needs
-
-cast-if2 : tie.Need-cast-if2
-cast-if2 c = search needs
 
 returns-2 : tie.Need-returns-2
 returns-2 c = breaks 4 _ _ (past-list (c .before .before)) (not-equal (λ e. omega arith))
 
-add-numbers-below : tie.Need-add-numbers-below
-add-numbers-below c = search needs
-
-numbers-below-requires : tie.Need-numbers-below-requires
-numbers-below-requires c κs = search needs
-
 returns-3 : tie.Need-returns-3
 returns-3 c = breaks 10 _ _ (past-position (c .before .before)) (sym (c .before .numbers-below .ensures) ∙ not-true _ (c .if3 .taken))
-
-at-entry-requires : tie.Need-at-entry-requires
-at-entry-requires c κs = search needs
-
-add-posted : tie.Need-add-posted
-add-posted c = search needs
-
-add-openings-give : tie.Need-add-openings-give
-add-openings-give c = search needs
 
 openings-give-requires : tie.Need-openings-give-requires
 openings-give-requires c κs =
@@ -171,15 +138,6 @@ openings-give-requires c κs =
 
 returns-4 : tie.Need-returns-4
 returns-4 c = breaks 13 _ _ (past-numbers (c .before .before .before)) (sym (given (c .before)) ∙ not-true _ (c .if4 .taken))
-
-add-if5 : tie.Need-add-if5
-add-if5 c = search needs
-
-at-vote-requires : tie.Need-at-vote-requires
-at-vote-requires c κs = search needs
-
-mul-list-permutes : tie.Need-mul-list-permutes
-mul-list-permutes c = search needs
 
 sub-list-permutes : tie.Need-sub-list-permutes
 sub-list-permutes c = let s = c .before .before .before .before .before .before .before .before .before .before .before .before .before in omega (arith, s .pre .here, full-first (s .args .p) (s .args .bytes .now) (s .args .l) (s .args .i))
@@ -211,25 +169,25 @@ pub full-rules-spec : {M : Type 1} → statement M
 full-rules-spec =
     tie.close
     (tie.spec
-    add-read1
-    read1-requires
-    cast-if1
+    (λ c. search needs)
+    (λ c κs. search needs)
+    (λ c. search needs)
     returns
-    add-read2
-    read2-requires
-    cast-if2
+    (λ c. search needs)
+    (λ c κs. search needs)
+    (λ c. search needs)
     returns-2
-    add-numbers-below
-    numbers-below-requires
+    (λ c. search needs)
+    (λ c κs. search needs)
     returns-3
-    at-entry-requires
-    add-posted
-    add-openings-give
+    (λ c κs. search needs)
+    (λ c. search needs)
+    (λ c. search needs)
     openings-give-requires
     returns-4
-    add-if5
-    at-vote-requires
-    mul-list-permutes
+    (λ c. search needs)
+    (λ c κs. search needs)
+    (λ c. search needs)
     sub-list-permutes
     list-permutes-requires
     returns-5

@@ -20,17 +20,11 @@ unfolding agrees equal
 on-side-1 M zero ballot list t e h = absurd (e refl)
 on-side-1 M (suc side) ballot list t e h = ap (eqb ballot) h
 
-plus-requires : tie.Need-plus-requires
-plus-requires c κs = search needs
-
 returns : tie.Need-returns
 returns c = on-side-0 _ _ _ _ _ (c .before .if1 .taken) (c .plus .ensures .0)
-
-minus-requires : tie.Need-minus-requires
-minus-requires c κs = search needs
 
 returns-2 : tie.Need-returns-2
 returns-2 c = on-side-1 _ _ _ _ _ (c .before .if1 .left) (c .minus .ensures .0)
 
 pub halves-agree-spec : {M : Type 1} → statement M
-halves-agree-spec = tie.close (tie.spec plus-requires returns minus-requires returns-2)
+halves-agree-spec = tie.close (tie.spec (λ c κs. search needs) returns (λ c κs. search needs) returns-2)

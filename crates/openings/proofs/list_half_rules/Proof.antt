@@ -133,56 +133,17 @@ agreed-read c =
 
 -- ----
 
-add-read1 : tie.Need-add-read1
-add-read1 c = search needs
-
-read1-requires : tie.Need-read1-requires
-read1-requires c κs = search needs
-
-cast-if1 : tie.Need-cast-if1
-cast-if1 c = search needs
-
 returns : tie.Need-returns
 returns c = breaks 4 _ _ (begun (c .before .before .before)) (not-equal (λ e. omega arith))
-
-at-link-requires : tie.Need-at-link-requires
-at-link-requires c κs = search needs
-
-add-read2 : tie.Need-add-read2
-add-read2 c = search needs
 
 read2-requires : tie.Need-read2-requires
 read2-requires c κs = omega (arith, link-inside (c .before .before .before .before), c .at-link .ensures .0)
 
-cast-position : tie.Need-cast-position
-cast-position c = search needs
-
-add-read2-2 : tie.Need-add-read2-2
-add-read2-2 c = search needs
-
-read2-requires-2 : tie.Need-read2-requires-2
-read2-requires-2 c κs = search needs
-
-cast-if2 : tie.Need-cast-if2
-cast-if2 c = search needs
-
 returns-2 : tie.Need-returns-2
 returns-2 c = breaks 4 _ _ (past-list (c .before .before .before .before)) (not-equal (λ e. omega (arith, position-read (c .before .before))))
 
-add-numbers-below : tie.Need-add-numbers-below
-add-numbers-below c = search needs
-
-numbers-below-requires : tie.Need-numbers-below-requires
-numbers-below-requires c κs = search needs
-
 returns-3 : tie.Need-returns-3
 returns-3 c = breaks 10 _ _ (past-position (c .before .before)) (sym (c .before .numbers-below .ensures) ∙ not-true _ (c .if3 .taken))
-
-at-ballot-half-requires : tie.Need-at-ballot-half-requires
-at-ballot-half-requires c κs = search needs
-
-add-read1-2 : tie.Need-add-read1-2
-add-read1-2 c = search needs
 
 read1-requires-2 : tie.Need-read1-requires-2
 read1-requires-2 c κs = omega (arith, half-inside (c .before .before .before .before .before .before .before .before .before .before), c .at-ballot-half .ensures .0)
@@ -191,21 +152,6 @@ at-entry-requires : tie.Need-at-entry-requires
 at-entry-requires c κs =
     let s = c .before .before .before .before .before .before .before .before .before .before .before in
     (s .pre .few, (omega (arith, s .pre .few .compared, s .pre .list), omega (arith, position-read (c .before .before .before .before .before .before), s .pre .position, s .pre .few .ballots)))
-
-add-posted : tie.Need-add-posted
-add-posted c = search needs
-
-cast-posted : tie.Need-cast-posted
-cast-posted c = search needs
-
-mul-posted : tie.Need-mul-posted
-mul-posted c = search needs
-
-add-posted-2 : tie.Need-add-posted-2
-add-posted-2 c = search needs
-
-add-openings-give : tie.Need-add-openings-give
-add-openings-give c = search needs
 
 openings-give-requires : tie.Need-openings-give-requires
 openings-give-requires c κs =
@@ -219,22 +165,13 @@ openings-give-requires c κs =
 returns-4 : tie.Need-returns-4
 returns-4 c = breaks 13 _ _ (past-numbers (c .before .before .before .before .before)) (sym (given (c .before)) ∙ not-true _ (c .if4 .taken))
 
-add-sum-of-three : tie.Need-add-sum-of-three
-add-sum-of-three c = search needs
-
 sum-of-three-requires : tie.Need-sum-of-three-requires
 sum-of-three-requires c κs =
     let s = c .before .before .before .before .before .before .before .before .before .before .before .before .before .before in
     (omega (arith, half-inside s, c .before .before .before .before .at-ballot-half .ensures .0), ap (λ (o : ℕ → List ℕ). numbersBelow (s .args .p .modulus) o 3) (half-read (c .before .before .before .before)) ∙ s .pre .numbers)
 
-add-sum-of-three-2 : tie.Need-add-sum-of-three-2
-add-sum-of-three-2 c = search needs
-
 sum-of-three-requires-2 : tie.Need-sum-of-three-requires-2
 sum-of-three-requires-2 c κs = (omega (arith, c .before .before .before .before .before .before .before .before .before .before .before .before .before .before .before .pre .whole), numbers-kept (c .before .before .before .before .before .before))
-
-add-read4 : tie.Need-add-read4
-add-read4 c = search needs
 
 read4-requires : tie.Need-read4-requires
 read4-requires c κs = omega (arith, link-inside (c .before .before .before .before .before .before .before .before .before .before .before .before .before .before .before .before), c .before .before .before .before .before .before .before .before .before .before .before .before .at-link .ensures .0)
@@ -252,37 +189,37 @@ pub list-half-rules-spec : {M : Type 1} → statement M
 list-half-rules-spec =
     tie.close
     (tie.spec
-    add-read1
-    read1-requires
-    cast-if1
+    (λ c. search needs)
+    (λ c κs. search needs)
+    (λ c. search needs)
     returns
-    at-link-requires
-    add-read2
+    (λ c κs. search needs)
+    (λ c. search needs)
     read2-requires
-    cast-position
-    add-read2-2
-    read2-requires-2
-    cast-if2
+    (λ c. search needs)
+    (λ c. search needs)
+    (λ c κs. search needs)
+    (λ c. search needs)
     returns-2
-    add-numbers-below
-    numbers-below-requires
+    (λ c. search needs)
+    (λ c κs. search needs)
     returns-3
-    at-ballot-half-requires
-    add-read1-2
+    (λ c κs. search needs)
+    (λ c. search needs)
     read1-requires-2
     at-entry-requires
-    add-posted
-    cast-posted
-    mul-posted
-    add-posted-2
-    add-openings-give
+    (λ c. search needs)
+    (λ c. search needs)
+    (λ c. search needs)
+    (λ c. search needs)
+    (λ c. search needs)
     openings-give-requires
     returns-4
-    add-sum-of-three
+    (λ c. search needs)
     sum-of-three-requires
-    add-sum-of-three-2
+    (λ c. search needs)
     sum-of-three-requires-2
-    add-read4
+    (λ c. search needs)
     read4-requires
     halves-agree-requires
     returns-5

@@ -16,14 +16,8 @@ zeros = replicate 1024 0
 part : (s : tie.Start) → length (take (s .args .n) zeros) ≡ s .args .n
 part s = length-take-le (s .args .n) zeros (s .pre .list .few)
 
-array-borrow-prefix-values : tie.Need-array-borrow-prefix-values
-array-borrow-prefix-values c = search needs
-
 slice-aggregate-permutes-with : tie.Need-slice-aggregate-permutes-with
 slice-aggregate-permutes-with c = sym (part (c .before .before))
-
-array-borrow-prefix-votes : tie.Need-array-borrow-prefix-votes
-array-borrow-prefix-votes c = search needs
 
 slice-aggregate-permutes-with-2 : tie.Need-slice-aggregate-permutes-with-2
 slice-aggregate-permutes-with-2 c = sym (part (c .before .before .before))
@@ -40,9 +34,9 @@ pub list-permutes-spec : {M : Type 1} → statement M
 list-permutes-spec =
     tie.close
     (tie.spec
-    array-borrow-prefix-values
+    (λ c. search needs)
     slice-aggregate-permutes-with
-    array-borrow-prefix-votes
+    (λ c. search needs)
     slice-aggregate-permutes-with-2
     permutes-with-requires
     returns)

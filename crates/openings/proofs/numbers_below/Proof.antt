@@ -25,18 +25,6 @@ loop-holds : tie.Need-loop-holds Inv-loop μ-loop
 unfolding every
 loop-holds c = (omega arith, refl)
 
-mul-read4 : tie.Need-mul-read4 Inv-loop μ-loop
-mul-read4 c = omega arith
-
-add-read4 : tie.Need-add-read4 Inv-loop μ-loop
-add-read4 c = omega arith
-
-add-read4-2 : tie.Need-add-read4-2 Inv-loop μ-loop
-add-read4-2 c = omega arith
-
-read4-requires : tie.Need-read4-requires Inv-loop μ-loop
-read4-requires c κs = omega arith
-
 returns : tie.Need-returns Inv-loop μ-loop
 unfolding numbersBelow
 returns c =
@@ -45,12 +33,6 @@ returns c =
     let at = g .before .before .args .at in
     let e = read-opened r at (g .loop .i) (c .before .read4 .ensures .0) refl in
     every-stop (small (g .before .before .args .modulus) r at) (g .before .before .args .k) (g .loop .i) (omega arith) (not-below (omega arith))
-
-add-i : tie.Need-add-i Inv-loop μ-loop
-add-i c = omega arith
-
-loop-less : tie.Need-loop-less Inv-loop μ-loop
-loop-less c = omega arith
 
 loop-again : tie.Need-loop-again Inv-loop μ-loop
 loop-again c =
@@ -71,12 +53,12 @@ numbers-below-spec =
     Inv-loop
     μ-loop
     loop-holds
-    mul-read4
-    add-read4
-    add-read4-2
-    read4-requires
+    (λ c. omega arith)
+    (λ c. omega arith)
+    (λ c. omega arith)
+    (λ c κs. omega arith)
     returns
-    add-i
-    loop-less
+    (λ c. omega arith)
+    (λ c. omega arith)
     loop-again
     returns-2)

@@ -31,12 +31,6 @@ loop-holds : tie.Need-loop-holds Inv-loop μ-loop
 unfolding every
 loop-holds c = (omega arith, λ place. refl)
 
-mul-gives : tie.Need-mul-gives Inv-loop μ-loop
-mul-gives c = omega arith
-
-add-gives : tie.Need-add-gives Inv-loop μ-loop
-add-gives c = omega arith
-
 mul-gives-2 : tie.Need-mul-gives-2 Inv-loop μ-loop
 mul-gives-2 c = omega (arith, posted-in c)
 
@@ -51,12 +45,6 @@ returns c place =
     let s = c .before .before .before .before .before in
     let i = c .before .before .before .loop .i in
     every-stop (right (s .args .bytes .now) (s .args .at) (s .args .posted) (s .args .step) place) (s .args .k) i (omega arith) (sym (c .before .gives .ensures (place i)) ∙ not-true _ (c .if1 .taken))
-
-add-i : tie.Need-add-i Inv-loop μ-loop
-add-i c = omega arith
-
-loop-less : tie.Need-loop-less Inv-loop μ-loop
-loop-less c = omega arith
 
 loop-again : tie.Need-loop-again Inv-loop μ-loop
 loop-again c =
@@ -75,13 +63,13 @@ openings-give-spec =
     Inv-loop
     μ-loop
     loop-holds
-    mul-gives
-    add-gives
+    (λ c. omega arith)
+    (λ c. omega arith)
     mul-gives-2
     add-gives-2
     gives-requires
     returns
-    add-i
-    loop-less
+    (λ c. omega arith)
+    (λ c. omega arith)
     loop-again
     returns-2)

@@ -8,22 +8,10 @@ use Rattle.openings.proofs.Permuted.{filled-sorted, filled-permutes}
 use Rattle.openings.proofs.permutes_with.Statement.{statement}
 use Rattle.openings.proofs.permutes_with.Tie as tie
 
-fill-values-requires : tie.Need-fill-values-requires
-fill-values-requires c κs = search needs
-
-fill-votes-requires : tie.Need-fill-votes-requires
-fill-votes-requires c κs = search needs
-
 is-permutation-requires : tie.Need-is-permutation-requires
 is-permutation-requires c κs =
     let s = c .before .before .before .before .before .before .before .before .before .before .before .before .before in
     (omega arith, omega arith, filled-sorted _ _ (c .before .before .before .before .fill-votes .ensures) (λ i l. s .pre .rise i (omega arith)))
-
-same-length : tie.Need-same-length
-same-length c = search needs
-
-same-length-2 : tie.Need-same-length-2
-same-length-2 c = search needs
 
 returns : tie.Need-returns
 returns c =
@@ -35,9 +23,9 @@ pub permutes-with-spec : {M : Type 1} → statement M
 permutes-with-spec =
     tie.close
     (tie.spec
-    fill-values-requires
-    fill-votes-requires
+    (λ c κs. search needs)
+    (λ c κs. search needs)
     is-permutation-requires
-    same-length
-    same-length-2
+    (λ c. search needs)
+    (λ c. search needs)
     returns)

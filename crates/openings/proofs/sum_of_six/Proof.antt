@@ -15,31 +15,13 @@ small s = read-below (s .args .modulus) (s .args .bytes .now) (s .args .at) 6 (s
 sum-of-three-requires : tie.Need-sum-of-three-requires
 sum-of-three-requires c κs = (omega arith, fewer-below _ _ 6 3 (omega arith) (c .before .pre .1))
 
-add-read4 : tie.Need-add-read4
-add-read4 c = search needs
-
-read4-requires : tie.Need-read4-requires
-read4-requires c κs = search needs
-
 plus-requires : tie.Need-plus-requires
 plus-requires c κs =
     (c .before .sum-of-three .ensures .1, small (c .before .before .before) 3 (omega arith) (c .read4 .ensures .0) (omega arith))
 
-add-read4-2 : tie.Need-add-read4-2
-add-read4-2 c = search needs
-
-read4-requires-2 : tie.Need-read4-requires-2
-read4-requires-2 c κs = search needs
-
 plus-requires-2 : tie.Need-plus-requires-2
 plus-requires-2 c κs =
     (c .before .plus .ensures .1, small (c .before .before .before .before .before) 4 (omega arith) (c .read42 .ensures .0) (omega arith))
-
-add-read4-3 : tie.Need-add-read4-3
-add-read4-3 c = search needs
-
-read4-requires-3 : tie.Need-read4-requires-3
-read4-requires-3 c κs = search needs
 
 plus-requires-3 : tie.Need-plus-requires-3
 plus-requires-3 c κs =
@@ -62,13 +44,13 @@ sum-of-six-spec =
     tie.close
     (tie.spec
     sum-of-three-requires
-    add-read4
-    read4-requires
+    (λ c. search needs)
+    (λ c κs. search needs)
     plus-requires
-    add-read4-2
-    read4-requires-2
+    (λ c. search needs)
+    (λ c κs. search needs)
     plus-requires-2
-    add-read4-3
-    read4-requires-3
+    (λ c. search needs)
+    (λ c κs. search needs)
     plus-requires-3
     returns)

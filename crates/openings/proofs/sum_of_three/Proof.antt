@@ -12,28 +12,10 @@ use Rattle.openings.proofs.sum_of_three.Tie as tie
 small : (s : tie.Start) (i : ℕ) → i < 3 → {x place : ℕ} → x ≡ number (s .args .bytes .now) place 4 → place ≡ s .args .at + 36 * i + 32 → x < s .args .modulus
 small s = read-below (s .args .modulus) (s .args .bytes .now) (s .args .at) 3 (s .pre .1)
 
-add-read4 : tie.Need-add-read4
-add-read4 c = search needs
-
-read4-requires : tie.Need-read4-requires
-read4-requires c κs = search needs
-
-add-read4-2 : tie.Need-add-read4-2
-add-read4-2 c = search needs
-
-read4-requires-2 : tie.Need-read4-requires-2
-read4-requires-2 c κs = search needs
-
 plus-requires : tie.Need-plus-requires
 plus-requires c κs =
     let s = c .before .before .before in
     (small s 0 (omega arith) (c .before .read4 .ensures .0) (omega arith), small s 1 (omega arith) (c .read42 .ensures .0) (omega arith))
-
-add-read4-3 : tie.Need-add-read4-3
-add-read4-3 c = search needs
-
-read4-requires-3 : tie.Need-read4-requires-3
-read4-requires-3 c κs = search needs
 
 plus-requires-2 : tie.Need-plus-requires-2
 plus-requires-2 c κs =
@@ -53,12 +35,12 @@ pub sum-of-three-spec : {M : Type 1} → statement M
 sum-of-three-spec =
     tie.close
     (tie.spec
-    add-read4
-    read4-requires
-    add-read4-2
-    read4-requires-2
+    (λ c. search needs)
+    (λ c κs. search needs)
+    (λ c. search needs)
+    (λ c κs. search needs)
     plus-requires
-    add-read4-3
-    read4-requires-3
+    (λ c. search needs)
+    (λ c κs. search needs)
     plus-requires-2
     returns)

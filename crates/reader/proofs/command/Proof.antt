@@ -9,23 +9,8 @@ use Rattle.reader.proofs.command.Tie as tie
 returns : tie.Need-returns
 returns c = gone _ _ _ _ (c .before .before .pre .0) (omega arith)
 
-sub-left : tie.Need-sub-left
-sub-left c = search needs
-
-shared-slice-read-b : tie.Need-shared-slice-read-b
-shared-slice-read-b c = search needs
-
-enum-told : tie.Need-enum-told
-enum-told c = search needs
-
 returns-2 : tie.Need-returns-2
 returns-2 c = cut _ _ _ _ (c .before .before .before .before .before .before .before .before .pre .0) (omega arith) (c .before .enum-told .given .1) (c .before .before .before .match .keys1) (omega arith)
-
-first-rules-requires : tie.Need-first-rules-requires
-first-rules-requires c κs = search needs
-
-enum-known-due : tie.Need-enum-known-due
-enum-known-due c = search needs
 
 returns-3 : tie.Need-returns-3
 returns-3 c = cut _ _ _ _ (c .before .before .before .before .before .before .before .before .before .pre .0) (omega arith) (c .before .before .due .given .1) (c .before .before .before .before .match .keys2) (omega arith)
@@ -33,17 +18,11 @@ returns-3 c = cut _ _ _ _ (c .before .before .before .before .before .before .be
 ballot-rules-requires : tie.Need-ballot-rules-requires
 ballot-rules-requires c κs = (told _ _ _ _ _ _ (c .before .before .due .given .1) (c .before .before .before .before .before .before .before .before .before .pre) .0, omega arith)
 
-enum-known-due-2 : tie.Need-enum-known-due-2
-enum-known-due-2 c = search needs
-
 returns-4 : tie.Need-returns-4
 returns-4 c = cut _ _ _ _ (c .before .before .before .before .before .before .before .before .before .pre .0) (omega arith) (c .before .before .due2 .given .1) (c .before .before .before .before .match .keys3) (omega arith)
 
 entry-rules-requires : tie.Need-entry-rules-requires
 entry-rules-requires c κs = (told _ _ _ _ _ _ (c .before .before .due2 .given .1) (c .before .before .before .before .before .before .before .before .before .pre) .0, omega arith)
-
-enum-told-2 : tie.Need-enum-told-2
-enum-told-2 c = search needs
 
 returns-5 : tie.Need-returns-5
 returns-5 c = cut _ _ _ _ (c .before .before .before .before .before .before .before .before .pre .0) (omega arith) (c .before .enum-told2 .given .1) (c .before .before .before .match .keys4) (omega arith)
@@ -51,17 +30,11 @@ returns-5 c = cut _ _ _ _ (c .before .before .before .before .before .before .be
 first-dice-rules-requires : tie.Need-first-dice-rules-requires
 first-dice-rules-requires c κs = first-dice-ready (told _ _ _ _ _ _ (c .before .enum-told2 .given .1) (c .before .before .before .before .before .before .before .before .pre)) (omega arith)
 
-enum-known-due-3 : tie.Need-enum-known-due-3
-enum-known-due-3 c = search needs
-
 returns-6 : tie.Need-returns-6
 returns-6 c = cut _ _ _ _ (c .before .before .before .before .before .before .before .before .before .pre .0) (omega arith) (c .before .before .due3 .given .1) (c .before .before .before .before .match .keys5) (omega arith)
 
 link-rules-requires : tie.Need-link-rules-requires
 link-rules-requires c κs = let k = told _ _ _ _ _ _ (c .before .before .due3 .given .1) (c .before .before .before .before .before .before .before .before .before .pre) in (k .0, (omega arith, (k .1 .few, k .1 .marked)))
-
-enum-told-3 : tie.Need-enum-told-3
-enum-told-3 c = search needs
 
 returns-7 : tie.Need-returns-7
 returns-7 c = cut _ _ _ _ (c .before .before .before .before .before .before .before .before .pre .0) (omega arith) (c .before .enum-told3 .given .1) (c .before .before .before .match .keys6) (omega arith)
@@ -69,17 +42,11 @@ returns-7 c = cut _ _ _ _ (c .before .before .before .before .before .before .be
 second-dice-rules-requires : tie.Need-second-dice-rules-requires
 second-dice-rules-requires c κs = (told _ _ _ _ _ _ (c .before .enum-told3 .given .1) (c .before .before .before .before .before .before .before .before .pre) .0, omega arith)
 
-enum-known-due-4 : tie.Need-enum-known-due-4
-enum-known-due-4 c = search needs
-
 returns-8 : tie.Need-returns-8
 returns-8 c = cut _ _ _ _ (c .before .before .before .before .before .before .before .before .before .pre .0) (omega arith) (c .before .before .due4 .given .1) (c .before .before .before .before .match .keys7) (omega arith)
 
 ballot-half-rules-requires : tie.Need-ballot-half-rules-requires
 ballot-half-rules-requires c κs = ballot-half-ready (told _ _ _ _ _ _ (c .before .before .due4 .given .1) (c .before .before .before .before .before .before .before .before .before .pre)) (omega arith)
-
-enum-known-due-5 : tie.Need-enum-known-due-5
-enum-known-due-5 c = search needs
 
 returns-9 : tie.Need-returns-9
 returns-9 c = cut _ _ _ _ (c .before .before .before .before .before .before .before .before .before .pre .0) (omega arith) (c .before .before .due5 .given .1) (c .before .before .before .before .match .keys8) (omega arith)
@@ -87,26 +54,17 @@ returns-9 c = cut _ _ _ _ (c .before .before .before .before .before .before .be
 list-half-rules-requires : tie.Need-list-half-rules-requires
 list-half-rules-requires c κs = list-half-ready (told _ _ _ _ _ _ (c .before .before .due5 .given .1) (c .before .before .before .before .before .before .before .before .before .pre)) (omega arith)
 
-enum-known-due-6 : tie.Need-enum-known-due-6
-enum-known-due-6 c = search needs
-
 returns-10 : tie.Need-returns-10
 returns-10 c = cut _ _ _ _ (c .before .before .before .before .before .before .before .before .before .pre .0) (omega arith) (c .before .before .due6 .given .1) (c .before .before .before .before .match .keys9) (omega arith)
 
 vote-rules-requires : tie.Need-vote-rules-requires
 vote-rules-requires c κs = (told _ _ _ _ _ _ (c .before .before .due6 .given .1) (c .before .before .before .before .before .before .before .before .before .pre) .0, omega arith)
 
-enum-known-due-7 : tie.Need-enum-known-due-7
-enum-known-due-7 c = search needs
-
 returns-11 : tie.Need-returns-11
 returns-11 c = cut _ _ _ _ (c .before .before .before .before .before .before .before .before .before .pre .0) (omega arith) (c .before .before .due7 .given .1) (c .before .before .before .before .match .keys10) (omega arith)
 
 full-rules-requires : tie.Need-full-rules-requires
 full-rules-requires c κs = full-ready (told _ _ _ _ _ _ (c .before .before .due7 .given .1) (c .before .before .before .before .before .before .before .before .before .pre)) (omega arith)
-
-enum-told-4 : tie.Need-enum-told-4
-enum-told-4 c = search needs
 
 returns-12 : tie.Need-returns-12
 returns-12 c = whole _ _ _ _ (c .before .before .before .before .before .before .before .before .before .pre .0) (omega arith) (c .before .before .enum-told .given .1) (c .before .before .before .before .match .keys1) (omega arith) (c .first-rules .ensures)
@@ -187,39 +145,39 @@ command-spec =
     tie.close
     (tie.spec
     returns
-    sub-left
-    shared-slice-read-b
-    enum-told
+    (λ c. search needs)
+    (λ c. search needs)
+    (λ c. search needs)
     returns-2
-    first-rules-requires
-    enum-known-due
+    (λ c κs. search needs)
+    (λ c. search needs)
     returns-3
     ballot-rules-requires
-    enum-known-due-2
+    (λ c. search needs)
     returns-4
     entry-rules-requires
-    enum-told-2
+    (λ c. search needs)
     returns-5
     first-dice-rules-requires
-    enum-known-due-3
+    (λ c. search needs)
     returns-6
     link-rules-requires
-    enum-told-3
+    (λ c. search needs)
     returns-7
     second-dice-rules-requires
-    enum-known-due-4
+    (λ c. search needs)
     returns-8
     ballot-half-rules-requires
-    enum-known-due-5
+    (λ c. search needs)
     returns-9
     list-half-rules-requires
-    enum-known-due-6
+    (λ c. search needs)
     returns-10
     vote-rules-requires
-    enum-known-due-7
+    (λ c. search needs)
     returns-11
     full-rules-requires
-    enum-told-4
+    (λ c. search needs)
     returns-12
     returns-13
     returns-14

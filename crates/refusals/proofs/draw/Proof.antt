@@ -24,21 +24,9 @@ first c =
     ap (λ (x : Bool). rule 18 x kept)
     (pair (c .before .both .ensures) (equal-is _ _) (long _ (c .before .before .part-one-length .ensures (limits-few _ _ _ e)))))
 
-part-one-length-requires : tie.Need-part-one-length-requires
-part-one-length-requires c κs = search needs
-
-both-requires : tie.Need-both-requires
-both-requires c κs = search needs
-
-refuse-lengths-requires : tie.Need-refuse-lengths-requires
-refuse-lengths-requires c κs = search needs
-
 returns : tie.Need-returns
 unfolding drawRefusal
 returns c = stopped _ _ _ _ (first (c .before)) (omega arith) (λ e. e)
-
-fair-of-requires : tie.Need-fair-of-requires
-fair-of-requires c κs = search needs
 
 returns-2 : tie.Need-returns-2
 unfolding drawRefusal
@@ -56,10 +44,10 @@ pub draw-spec : {M : Type 1} → statement M
 draw-spec =
     tie.close
     (tie.spec
-    part-one-length-requires
-    both-requires
-    refuse-lengths-requires
+    (λ c κs. search needs)
+    (λ c κs. search needs)
+    (λ c κs. search needs)
     returns
-    fair-of-requires
+    (λ c κs. search needs)
     returns-2
     returns-3)

@@ -9,11 +9,8 @@ use Rattle.refusals.proofs.fair_of.Tie as tie
 returns : tie.Need-returns
 returns c is30 = absurd (omega arith)
 
-fair-dice-requires : tie.Need-fair-dice-requires
-fair-dice-requires c κs = search needs
-
 returns-2 : tie.Need-returns-2
 returns-2 c is30 = c .fair-dice .ensures ∙ fair-whole _ is30
 
 pub fair-of-spec : {M : Type 1} → statement M
-fair-of-spec = tie.close (tie.spec returns fair-dice-requires returns-2)
+fair-of-spec = tie.close (tie.spec returns (λ c κs. search needs) returns-2)

@@ -5,11 +5,8 @@ use Rattle.refusals.proofs.Tests.{pair}
 use Rattle.refusals.proofs.few.Statement.{statement}
 use Rattle.refusals.proofs.few.Tie as tie
 
-both-requires : tie.Need-both-requires
-both-requires c κs = search needs
-
 returns : tie.Need-returns
 returns c = pair (c .both .ensures) (atMost-is _ _) (atMost-is _ _)
 
 pub few-spec : {M : Type 1} → statement M
-few-spec = tie.close (tie.spec both-requires returns)
+few-spec = tie.close (tie.spec (λ c κs. search needs) returns)

@@ -6,12 +6,6 @@ use Rattle.refusals.proofs.Tests.{alike, long}
 use Rattle.refusals.proofs.part_one.Statement.{statement}
 use Rattle.refusals.proofs.part_one.Tie as tie
 
-part-one-length-requires : tie.Need-part-one-length-requires
-part-one-length-requires c κs = search needs
-
-refuse-requires : tie.Need-refuse-requires
-refuse-requires c κs = search needs
-
 returns : tie.Need-returns
 unfolding partOneRefusal
 returns c =
@@ -21,4 +15,4 @@ returns c =
     (λ due. (refl, refl))
 
 pub part-one-spec : {M : Type 1} → statement M
-part-one-spec = tie.close (tie.spec part-one-length-requires refuse-requires returns)
+part-one-spec = tie.close (tie.spec (λ c κs. search needs) (λ c κs. search needs) returns)

@@ -4,9 +4,6 @@ use Rattle.refusals.proofs.Tests.{few-held, few-failed}
 use Rattle.refusals.proofs.part_one_length.Statement.{statement}
 use Rattle.refusals.proofs.part_one_length.Tie as tie
 
-few-requires : tie.Need-few-requires
-few-requires c κs = search needs
-
 returns : tie.Need-returns
 returns c few = absurd (few-failed _ _ (c .before .few .ensures) (c .if1 .taken) few)
 
@@ -17,4 +14,4 @@ returns-2 : tie.Need-returns-2
 returns-2 c few = c .at-first-dice .ensures .0
 
 pub part-one-length-spec : {M : Type 1} → statement M
-part-one-length-spec = tie.close (tie.spec few-requires returns at-first-dice-requires returns-2)
+part-one-length-spec = tie.close (tie.spec (λ c κs. search needs) returns at-first-dice-requires returns-2)

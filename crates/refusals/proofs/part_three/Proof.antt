@@ -6,15 +6,9 @@ use Rattle.refusals.proofs.Tests.{alike}
 use Rattle.refusals.proofs.part_three.Statement.{statement}
 use Rattle.refusals.proofs.part_three.Tie as tie
 
-shape-of-requires : tie.Need-shape-of-requires
-shape-of-requires c κs = search needs
-
-part-three-shaped-requires : tie.Need-part-three-shaped-requires
-part-three-shaped-requires c κs = search needs
-
 returns : tie.Need-returns
 unfolding partThreeRefusal
 returns c = c .part-three-shaped .ensures ∙ alike _ _ _ _ _ (λ few. (refl, c .before .shape-of .ensures (few .1))) (λ due. (refl, refl))
 
 pub part-three-spec : {M : Type 1} → statement M
-part-three-spec = tie.close (tie.spec shape-of-requires part-three-shaped-requires returns)
+part-three-spec = tie.close (tie.spec (λ c κs. search needs) (λ c κs. search needs) returns)

@@ -6,16 +6,10 @@ use Rattle.refusals.proofs.Tests.{alike}
 use Rattle.refusals.proofs.part_three_drawn.Statement.{statement}
 use Rattle.refusals.proofs.part_three_drawn.Tie as tie
 
-shape-of-requires : tie.Need-shape-of-requires
-shape-of-requires c κs = search needs
-
-part-three-drawn-shaped-requires : tie.Need-part-three-drawn-shaped-requires
-part-three-drawn-shaped-requires c κs = search needs
-
 returns : tie.Need-returns
 unfolding partThreeDrawnRefusal
 returns c = c .part-three-drawn-shaped .ensures ∙ alike _ _ _ _ _ (λ few. (refl, c .before .shape-of .ensures (few .1))) (λ due. (refl, refl))
 
 pub part-three-drawn-spec : {M : Type 1} → statement M
 part-three-drawn-spec =
-    tie.close (tie.spec shape-of-requires part-three-drawn-shaped-requires returns)
+    tie.close (tie.spec (λ c κs. search needs) (λ c κs. search needs) returns)

@@ -8,17 +8,8 @@ use Rattle.refusals.proofs.Tests.{few-held, few-failed}
 use Rattle.refusals.proofs.part_three_length.Statement.{statement}
 use Rattle.refusals.proofs.part_three_length.Tie as tie
 
-few-requires : tie.Need-few-requires
-few-requires c κs = search needs
-
 returns : tie.Need-returns
 returns c few modulus = absurd (few-failed _ _ (c .before .few .ensures) (c .if1 .taken) few)
-
-mul-result : tie.Need-mul-result
-mul-result c = search needs
-
-add-result : tie.Need-add-result
-add-result c = search needs
 
 mul-result-2 : tie.Need-mul-result-2
 mul-result-2 c = let h = few-held _ _ (c .before .few .ensures) (c .if1 .left) in omega (arith, mul-le-mul (h .1) (h .0))
@@ -37,10 +28,10 @@ pub part-three-length-spec : {M : Type 1} → statement M
 part-three-length-spec =
     tie.close
     (tie.spec
-    few-requires
+    (λ c κs. search needs)
     returns
-    mul-result
-    add-result
+    (λ c. search needs)
+    (λ c. search needs)
     mul-result-2
     mul-result-3
     add-result-2

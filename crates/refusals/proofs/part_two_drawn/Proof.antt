@@ -7,24 +7,6 @@ use Rattle.refusals.proofs.Tests.{alike, long, pair}
 use Rattle.refusals.proofs.part_two_drawn.Statement.{statement}
 use Rattle.refusals.proofs.part_two_drawn.Tie as tie
 
-part-one-length-requires : tie.Need-part-one-length-requires
-part-one-length-requires c κs = search needs
-
-part-two-length-requires : tie.Need-part-two-length-requires
-part-two-length-requires c κs = search needs
-
-both-requires : tie.Need-both-requires
-both-requires c κs = search needs
-
-both-requires-2 : tie.Need-both-requires-2
-both-requires-2 c κs = search needs
-
-fair-of-requires : tie.Need-fair-of-requires
-fair-of-requires c κs = search needs
-
-refuse-requires : tie.Need-refuse-requires
-refuse-requires c κs = search needs
-
 returns : tie.Need-returns
 unfolding partTwoDrawnRefusal
 returns c =
@@ -41,10 +23,10 @@ pub part-two-drawn-spec : {M : Type 1} → statement M
 part-two-drawn-spec =
     tie.close
     (tie.spec
-    part-one-length-requires
-    part-two-length-requires
-    both-requires
-    both-requires-2
-    fair-of-requires
-    refuse-requires
+    (λ c κs. search needs)
+    (λ c κs. search needs)
+    (λ c κs. search needs)
+    (λ c κs. search needs)
+    (λ c κs. search needs)
+    (λ c κs. search needs)
     returns)

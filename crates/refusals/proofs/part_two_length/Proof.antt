@@ -7,9 +7,6 @@ use Rattle.refusals.proofs.Tests.{few-held, few-failed}
 use Rattle.refusals.proofs.part_two_length.Statement.{statement}
 use Rattle.refusals.proofs.part_two_length.Tie as tie
 
-few-requires : tie.Need-few-requires
-few-requires c κs = search needs
-
 returns : tie.Need-returns
 returns c few modulus = absurd (few-failed _ _ (c .before .few .ensures) (c .if1 .taken) few)
 
@@ -27,4 +24,4 @@ returns-2 c few modulus = refl
 
 pub part-two-length-spec : {M : Type 1} → statement M
 part-two-length-spec =
-    tie.close (tie.spec few-requires returns mul-result mul-result-2 add-result returns-2)
+    tie.close (tie.spec (λ c κs. search needs) returns mul-result mul-result-2 add-result returns-2)

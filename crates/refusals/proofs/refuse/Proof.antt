@@ -24,9 +24,6 @@ behind c = begun _ _ (c .before .refuse-lengths .ensures) (omega arith)
 due : (c : tie.Else2) → dueLengths (slices (c .before .before .before .before .before .before .before .before .before)) ≡ true
 due c = held (c .before .due-lengths .ensures _) (c .if2 .left)
 
-refuse-lengths-requires : tie.Need-refuse-lengths-requires
-refuse-lengths-requires c κs = search needs
-
 returns : tie.Need-returns
 returns c = stopped _ _ _ _ (c .before .refuse-lengths .ensures) (omega arith) (λ e. sym (and-last-stop _ _ e)) ∙ sym (refusal-is _ _ _ _ _)
 
@@ -50,7 +47,7 @@ pub refuse-spec : {M : Type 1} → statement M
 refuse-spec =
     tie.close
     (tie.spec
-    refuse-lengths-requires
+    (λ c κs. search needs)
     returns
     due-lengths-requires
     returns-2

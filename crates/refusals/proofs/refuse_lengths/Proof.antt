@@ -7,9 +7,6 @@ use Rattle.laws.specs.Faults.{rule-go, rule-stop}
 use Rattle.refusals.proofs.refuse_lengths.Statement.{statement}
 use Rattle.refusals.proofs.refuse_lengths.Tie as tie
 
-in-limits-requires : tie.Need-in-limits-requires
-in-limits-requires c κs = search needs
-
 returns : tie.Need-returns
 returns c = rule-stop _ _ _ (failed (c .before .in-limits .ensures) (c .if1 .taken))
 
@@ -20,4 +17,4 @@ returns-3 : tie.Need-returns-3
 returns-3 c = rule-go _ _ _ (held (c .before .before .in-limits .ensures) (c .before .if1 .left)) (rule-go _ _ _ (not-false _ (c .if2 .left)) refl)
 
 pub refuse-lengths-spec : {M : Type 1} → statement M
-refuse-lengths-spec = tie.close (tie.spec in-limits-requires returns returns-2 returns-3)
+refuse-lengths-spec = tie.close (tie.spec (λ c κs. search needs) returns returns-2 returns-3)

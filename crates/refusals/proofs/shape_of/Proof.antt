@@ -7,11 +7,8 @@ use Rattle.refusals.proofs.shape_of.Tie as tie
 returns : tie.Need-returns
 returns c small = absurd (omega arith)
 
-right-shape-requires : tie.Need-right-shape-requires
-right-shape-requires c κs = search needs
-
 returns-2 : tie.Need-returns-2
 returns-2 c small = search needs
 
 pub shape-of-spec : {M : Type 1} → statement M
-shape-of-spec = tie.close (tie.spec returns right-shape-requires returns-2)
+shape-of-spec = tie.close (tie.spec returns (λ c κs. search needs) returns-2)

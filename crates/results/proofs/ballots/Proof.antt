@@ -12,11 +12,8 @@ use Rattle.results.proofs.ballots.Tie as tie
 returns : tie.Need-returns
 returns c = let l : length (c .before .before .args .bytes .now) < 8 = omega arith in rw (not-atMost l)
 
-parameters-requires : tie.Need-parameters-requires
-parameters-requires c κs = search needs
-
 returns-2 : tie.Need-returns-2
 returns-2 c = let l : 8 ≤ length (c .before .before .before .args .bytes .now) = omega arith in rw (is-atMost l) (ap (λ (p : Parameters). p .ballots) (c .parameters .ensures))
 
 pub ballots-spec : {M : Type 1} → statement M
-ballots-spec = tie.close (tie.spec returns parameters-requires returns-2)
+ballots-spec = tie.close (tie.spec returns (λ c κs. search needs) returns-2)

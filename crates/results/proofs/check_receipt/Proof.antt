@@ -8,15 +8,6 @@ use Rattle.results.proofs.check_receipt.Tie as tie
 returns : tie.Need-returns
 returns c = receipt-short _ _ (c .if1 .taken)
 
-head-fault-requires : tie.Need-head-fault-requires
-head-fault-requires c κs = search needs
-
-enum-known-k : tie.Need-enum-known-k
-enum-known-k c = search needs
-
-enum-told : tie.Need-enum-told
-enum-told c = search needs
-
 parameters-requires : tie.Need-parameters-requires
 parameters-requires c κs = head-whole _ (passed-as (c .before .before .head-fault .ensures) (c .enum-told .given .1))
 
@@ -34,9 +25,9 @@ check-receipt-spec =
     tie.close
     (tie.spec
     returns
-    head-fault-requires
-    enum-known-k
-    enum-told
+    (λ c κs. search needs)
+    (λ c. search needs)
+    (λ c. search needs)
     parameters-requires
     receipt-among-requires
     returns-2

@@ -26,12 +26,6 @@ loop-holds c = (omega arith, refl)
 receipt-with-requires : tie.Need-receipt-with-requires Inv-loop μ-loop
 receipt-with-requires c κs = (c .before .before .before .before .pre, omega arith)
 
-add-j : tie.Need-add-j Inv-loop μ-loop
-add-j c = omega arith
-
-loop-less : tie.Need-loop-less Inv-loop μ-loop
-loop-less c = omega arith
-
 -- one ballot more
 more : (p : Parameters) (r printed : List ℕ) (j : ℕ) {next before : Receipt} → next ≡ pick (equal (idOf p r j) (number printed 0 4)) (receiptAt p r printed j) before
     → before ≡ receiptAmong p r printed j → next ≡ receiptAmong p r printed (j + 1)
@@ -52,4 +46,4 @@ returns c =
 pub receipt-among-spec : {M : Type 1} → statement M
 receipt-among-spec =
     tie.close
-    (tie.spec Inv-loop μ-loop loop-holds receipt-with-requires add-j loop-less loop-again returns)
+    (tie.spec Inv-loop μ-loop loop-holds receipt-with-requires (λ c. omega arith) (λ c. omega arith) loop-again returns)

@@ -16,39 +16,12 @@ use Rattle.protocol.specs.Results.{receiptAt}
 use Rattle.results.proofs.receipt_at.Statement.{statement}
 use Rattle.results.proofs.receipt_at.Tie as tie
 
-at-ballot-requires : tie.Need-at-ballot-requires
-at-ballot-requires c κs = search needs
-
-add-to : tie.Need-add-to
-add-to c = search needs
-
-sub-sha3-224 : tie.Need-sub-sha3-224
-sub-sha3-224 c = search needs
-
-part-sha3-224-start : tie.Need-part-sha3-224-start
-part-sha3-224-start c = search needs
-
 part-sha3-224-end : tie.Need-part-sha3-224-end
 unfolding atBallot
 part-sha3-224-end c = omega (arith, c .at-ballot .ensures .0, c .before .before .before .pre .0 .reaches)
 
-sha3-224-requires : tie.Need-sha3-224-requires
-sha3-224-requires c κs = search needs
-
-sub-same-bytes : tie.Need-sub-same-bytes
-sub-same-bytes c = search needs
-
-part-same-bytes-start : tie.Need-part-same-bytes-start
-part-same-bytes-start c = search needs
-
-part-same-bytes-end : tie.Need-part-same-bytes-end
-part-same-bytes-end c = search needs
-
 slice-aggregate-same-bytes : tie.Need-slice-aggregate-same-bytes
 slice-aggregate-same-bytes c = omega (arith, ap length (c .before .before .sha3-224 .ensures) ∙ sha3-224-length _)
-
-same-bytes-requires : tie.Need-same-bytes-requires
-same-bytes-requires c κs = search needs
 
 -- the test that the code makes is the definition's
 tested : (c : tie.After-same-bytes) →
@@ -73,16 +46,16 @@ pub receipt-at-spec : {M : Type 1} → statement M
 receipt-at-spec =
     tie.close
     (tie.spec
-    at-ballot-requires
-    add-to
-    sub-sha3-224
-    part-sha3-224-start
+    (λ c κs. search needs)
+    (λ c. search needs)
+    (λ c. search needs)
+    (λ c. search needs)
     part-sha3-224-end
-    sha3-224-requires
-    sub-same-bytes
-    part-same-bytes-start
-    part-same-bytes-end
+    (λ c κs. search needs)
+    (λ c. search needs)
+    (λ c. search needs)
+    (λ c. search needs)
     slice-aggregate-same-bytes
-    same-bytes-requires
+    (λ c κs. search needs)
     returns
     returns-2)

@@ -10,21 +10,9 @@ use Rattle.protocol.specs.Record.{idOf}
 use Rattle.results.proofs.receipt_with.Statement.{statement}
 use Rattle.results.proofs.receipt_with.Tie as tie
 
-at-ballot-requires : tie.Need-at-ballot-requires
-at-ballot-requires c κs = search needs
-
-add-read4 : tie.Need-add-read4
-add-read4 c = search needs
-
 read4-requires : tie.Need-read4-requires
 unfolding atBallot
 read4-requires c κs = omega (arith, c .at-ballot .ensures .0, c .before .before .before .pre .0 .reaches)
-
-read4-requires-2 : tie.Need-read4-requires-2
-read4-requires-2 c κs = search needs
-
-receipt-at-requires : tie.Need-receipt-at-requires
-receipt-at-requires c κs = search needs
 
 id-read : (c : tie.After-read4) → (let s = c .before .before .before .before in c .read4 .result ≡ idOf (s .args .p) (s .args .bytes .now) (s .args .j))
 unfolding idOf
@@ -40,10 +28,10 @@ pub receipt-with-spec : {M : Type 1} → statement M
 receipt-with-spec =
     tie.close
     (tie.spec
-    at-ballot-requires
-    add-read4
+    (λ c κs. search needs)
+    (λ c. search needs)
     read4-requires
-    read4-requires-2
-    receipt-at-requires
+    (λ c κs. search needs)
+    (λ c κs. search needs)
     returns
     returns-2)

@@ -21,9 +21,6 @@ fill-votes-requires c κs =
     let v = votes-ready _ (c .before .before .before .before .before .before .before .pre) (c .before .before .before .before .parameters .ensures) in
     (omega (arith, v .few .ballots), omega (arith, v .reaches, c .before .at-vote .ensures .0))
 
-same-length : tie.Need-same-length
-same-length c = search needs
-
 returns-2 : tie.Need-returns-2
 returns-2 c =
     let asked = c .before .before .before .before .before .before .before in
@@ -39,5 +36,5 @@ write-votes-spec =
     returns
     at-vote-requires
     fill-votes-requires
-    same-length
+    (λ c. search needs)
     returns-2)

@@ -19,15 +19,6 @@ sub-read4 : tie.Need-sub-read4
 unfolding atBallot
 sub-read4 c = omega arith
 
-read4-requires : tie.Need-read4-requires
-read4-requires c κs = search needs
-
-add-read4 : tie.Need-add-read4
-add-read4 c = search needs
-
-read4-requires-2 : tie.Need-read4-requires-2
-read4-requires-2 c κs = search needs
-
 -- the id before, and the id of the command
 before-read : (c : tie.After-read42) → c .before .read4 .result ≡ idOf (c .before .before .before .before .args .p) (c .before .before .before .before .args .bytes .now) (c .before .before .before .before .args .j - 1)
 unfolding idOf atBallot
@@ -51,4 +42,4 @@ returns-3 c = rule-go 5 _ _ (sym (or-go _ _ (not-equal (λ e. omega arith)) (sym
 pub ballot-rules-spec : {M : Type 1} → statement M
 ballot-rules-spec =
     tie.close
-    (tie.spec returns sub-read4 read4-requires add-read4 read4-requires-2 returns-2 returns-3)
+    (tie.spec returns sub-read4 (λ c κs. search needs) (λ c. search needs) (λ c κs. search needs) returns-2 returns-3)

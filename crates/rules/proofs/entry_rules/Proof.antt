@@ -8,27 +8,9 @@ use Rattle.protocol.specs.Rules.{entryRules}
 use Rattle.rules.proofs.entry_rules.Statement.{statement}
 use Rattle.rules.proofs.entry_rules.Tie as tie
 
-add-read1 : tie.Need-add-read1
-add-read1 c = search needs
-
-read1-requires : tie.Need-read1-requires
-read1-requires c κs = search needs
-
-cast-if1 : tie.Need-cast-if1
-cast-if1 c = search needs
-
 returns : tie.Need-returns
 unfolding entryRules
 returns c = rw (← c .before .before .before .pre .0) (rule-stop 4 _ _ (not-equal (λ e. omega arith)))
-
-add-read2 : tie.Need-add-read2
-add-read2 c = search needs
-
-read2-requires : tie.Need-read2-requires
-read2-requires c κs = search needs
-
-cast-if2 : tie.Need-cast-if2
-cast-if2 c = search needs
 
 returns-2 : tie.Need-returns-2
 unfolding entryRules
@@ -42,12 +24,12 @@ pub entry-rules-spec : {M : Type 1} → statement M
 entry-rules-spec =
     tie.close
     (tie.spec
-    add-read1
-    read1-requires
-    cast-if1
+    (λ c. search needs)
+    (λ c κs. search needs)
+    (λ c. search needs)
     returns
-    add-read2
-    read2-requires
-    cast-if2
+    (λ c. search needs)
+    (λ c κs. search needs)
+    (λ c. search needs)
     returns-2
     returns-3)

@@ -25,12 +25,6 @@ loop-holds : tie.Need-loop-holds Inv-loop μ-loop
 unfolding every
 loop-holds c = (omega arith, refl)
 
-add-c : tie.Need-add-c Inv-loop μ-loop
-add-c c = omega arith
-
-shared-slice-read-c : tie.Need-shared-slice-read-c Inv-loop μ-loop
-shared-slice-read-c c = omega arith
-
 returns : tie.Need-returns Inv-loop μ-loop
 unfolding fairDice fairDie
 returns c =
@@ -48,12 +42,6 @@ returns-2 c =
     let at = g .before .args .at in
     let e = get-piece bytes at 30 (g .loop .i) (omega arith) in
     every-stop (fair bytes at) 30 (g .loop .i) (omega arith) (sym (and-go _ _ (is-atMost (omega arith)) (sym (not-atMost (omega arith)))))
-
-add-i : tie.Need-add-i Inv-loop μ-loop
-add-i c = omega arith
-
-loop-less : tie.Need-loop-less Inv-loop μ-loop
-loop-less c = omega arith
 
 loop-again : tie.Need-loop-again Inv-loop μ-loop
 unfolding fairDie
@@ -75,11 +63,11 @@ fair-dice-spec =
     Inv-loop
     μ-loop
     loop-holds
-    add-c
-    shared-slice-read-c
+    (λ c. omega arith)
+    (λ c. omega arith)
     returns
     returns-2
-    add-i
-    loop-less
+    (λ c. omega arith)
+    (λ c. omega arith)
     loop-again
     returns-3)

@@ -14,12 +14,6 @@ use Rattle.protocol.specs.Rules.{fairDice, rightShape, firstDiceRules}
 use Rattle.rules.proofs.first_dice_rules.Statement.{statement}
 use Rattle.rules.proofs.first_dice_rules.Tie as tie
 
-add-fair-dice : tie.Need-add-fair-dice
-add-fair-dice c = search needs
-
-fair-dice-requires : tie.Need-fair-dice-requires
-fair-dice-requires c κs = search needs
-
 fair-read : (c : tie.After-fair-dice) → (let s = c .before .before in c .fair-dice .result ≡ fairDice (firstDiceOf (s .args .p) (s .args .bytes .now)))
 unfolding firstDiceOf
 fair-read c = rw (← c .before .before .pre .here) (c .fair-dice .ensures)
@@ -27,15 +21,6 @@ fair-read c = rw (← c .before .before .pre .here) (c .fair-dice .ensures)
 returns : tie.Need-returns
 unfolding firstDiceRules
 returns c = rule-stop 6 _ _ (sym (fair-read (c .before)) ∙ not-true _ (c .if1 .taken))
-
-add-read4 : tie.Need-add-read4
-add-read4 c = search needs
-
-read4-requires : tie.Need-read4-requires
-read4-requires c κs = search needs
-
-right-shape-requires : tie.Need-right-shape-requires
-right-shape-requires c κs = search needs
 
 mask-read : (c : tie.After-read4) → (let s = c .before .before .before .before in c .read4 .result ≡ maskOf (s .args .p) (s .args .bytes .now))
 unfolding maskOf
@@ -56,9 +41,6 @@ shaped : (c : tie.Else2) {k : ℕ} →
     k ≡ rule 8 (s .args .drawn implies equal (maskOf p r) (drawnMask (p .compared) (challenge (firstDiceOf p r) (take (atFirstDice p) r)))) kept → k ≡ firstDiceRules p r (s .args .drawn))
 unfolding firstDiceRules
 shaped c h = rule-go 6 _ _ (sym (fair-read (c .before .before .before .before)) ∙ not-false _ (c .before .before .before .if1 .left)) (rule-go 7 _ _ (sym (shape-read (c .before)) ∙ not-false _ (c .if2 .left)) h)
-
-drawn-mask-requires : tie.Need-drawn-mask-requires
-drawn-mask-requires c κs = search needs
 
 drawn-read : (c : tie.After-drawn-mask) →
     (let s = c .before .before .before .before .before .before .before .before in
@@ -82,14 +64,14 @@ pub first-dice-rules-spec : {M : Type 1} → statement M
 first-dice-rules-spec =
     tie.close
     (tie.spec
-    add-fair-dice
-    fair-dice-requires
+    (λ c. search needs)
+    (λ c κs. search needs)
     returns
-    add-read4
-    read4-requires
-    right-shape-requires
+    (λ c. search needs)
+    (λ c κs. search needs)
+    (λ c κs. search needs)
     returns-2
-    drawn-mask-requires
+    (λ c κs. search needs)
     returns-3
     returns-4
     returns-5)

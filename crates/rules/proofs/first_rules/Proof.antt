@@ -19,15 +19,9 @@ inside : (M n m : ℕ) → ((2 ≤ M) × (M ≤ 4294967295)) × (((1 ≤ n) × (
 unfolding inLimits modulusInLimits ballotsInLimits listsInLimits
 inside M n m h = rule-go 3 _ kept (simp rules h) refl
 
-read4-requires : tie.Need-read4-requires
-read4-requires c κs = search needs
-
 returns : tie.Need-returns
 unfolding firstRules
 returns c = outside _ _ _ (λ t. omega arith)
-
-read2-requires : tie.Need-read2-requires
-read2-requires c κs = search needs
 
 returns-2 : tie.Need-returns-2
 unfolding firstRules
@@ -36,9 +30,6 @@ returns-2 c = outside _ _ _ (λ t. omega arith)
 returns-3 : tie.Need-returns-3
 unfolding firstRules
 returns-3 c = outside _ _ _ (λ t. omega arith)
-
-read1-requires : tie.Need-read1-requires
-read1-requires c κs = search needs
 
 returns-4 : tie.Need-returns-4
 unfolding firstRules
@@ -56,12 +47,12 @@ pub first-rules-spec : {M : Type 1} → statement M
 first-rules-spec =
     tie.close
     (tie.spec
-    read4-requires
+    (λ c κs. search needs)
     returns
-    read2-requires
+    (λ c κs. search needs)
     returns-2
     returns-3
-    read1-requires
+    (λ c κs. search needs)
     returns-4
     returns-5
     returns-6)

@@ -13,40 +13,13 @@ use Rattle.rules.proofs.Marking.{mark-tells}
 use Rattle.rules.proofs.link_rules.Statement.{statement}
 use Rattle.rules.proofs.link_rules.Tie as tie
 
-add-read1 : tie.Need-add-read1
-add-read1 c = search needs
-
-read1-requires : tie.Need-read1-requires
-read1-requires c κs = search needs
-
-cast-if1 : tie.Need-cast-if1
-cast-if1 c = search needs
-
 returns : tie.Need-returns
 unfolding linkRules
 returns c = rw (← c .before .before .before .pre .0) (rule-stop 4 _ _ (not-equal (λ e. omega arith)))
 
-add-read2 : tie.Need-add-read2
-add-read2 c = search needs
-
-read2-requires : tie.Need-read2-requires
-read2-requires c κs = search needs
-
-cast-if2 : tie.Need-cast-if2
-cast-if2 c = search needs
-
 returns-2 : tie.Need-returns-2
 unfolding linkRules
 returns-2 c = rw (← c .before .before .before .before .before .pre .0) (rule-go 4 _ _ (is-equal (omega arith)) (rule-stop 4 _ _ (not-equal (λ e. omega arith))))
-
-add-read2-2 : tie.Need-add-read2-2
-add-read2-2 c = search needs
-
-read2-requires-2 : tie.Need-read2-requires-2
-read2-requires-2 c κs = search needs
-
-cast-position : tie.Need-cast-position
-cast-position c = search needs
 
 -- list and ballot are the due ones: the other rules are left
 named : (c : tie.Else2) {k : ℕ} →
@@ -66,9 +39,6 @@ position-read c = rw (← c .before .before .before .before .before .before .pre
 returns-3 : tie.Need-returns-3
 returns-3 c = named (c .before .before .before) (rule-stop 9 _ _ (not-below (omega (arith, position-read (c .before .before)))))
 
-element-copy-out-if4 : tie.Need-element-copy-out-if4
-element-copy-out-if4 c = search needs
-
 -- what the mark of the position tells
 mark : (c : tie.After-if42) →
     (let s = c .before .before .before .before .before .before .before .before .before in
@@ -81,12 +51,6 @@ mark c = mark-tells _ _ _ _ (c .before .before .before .before .before .before .
 
 returns-4 : tie.Need-returns-4
 returns-4 c = named (c .before .before .before .before .before) (rule-go 9 _ _ (is-below (omega (arith, position-read (c .before .before .before .before)))) (rule-stop 9 _ _ (mark (c .before) ∙ ap not (c .if4 .taken))))
-
-add-read4 : tie.Need-add-read4
-add-read4 c = search needs
-
-read4-requires : tie.Need-read4-requires
-read4-requires c κs = search needs
 
 -- the position is free: rule 10 is left
 free : (c : tie.Else4) {k : ℕ} →
@@ -112,21 +76,21 @@ pub link-rules-spec : {M : Type 1} → statement M
 link-rules-spec =
     tie.close
     (tie.spec
-    add-read1
-    read1-requires
-    cast-if1
+    (λ c. search needs)
+    (λ c κs. search needs)
+    (λ c. search needs)
     returns
-    add-read2
-    read2-requires
-    cast-if2
+    (λ c. search needs)
+    (λ c κs. search needs)
+    (λ c. search needs)
     returns-2
-    add-read2-2
-    read2-requires-2
-    cast-position
+    (λ c. search needs)
+    (λ c κs. search needs)
+    (λ c. search needs)
     returns-3
-    element-copy-out-if4
+    (λ c. search needs)
     returns-4
-    add-read4
-    read4-requires
+    (λ c. search needs)
+    (λ c κs. search needs)
     returns-5
     returns-6)

@@ -24,9 +24,6 @@ cast-result c = omega (arith, leading-le 32 (c .before .args .mask))
 sub-result : tie.Need-sub-result
 sub-result c = leading-le 32 (c .before .args .mask)
 
-mul-result : tie.Need-mul-result
-mul-result c = search needs
-
 returns-2 : tie.Need-returns-2
 unfolding rightShape
 returns-2 c =
@@ -40,4 +37,4 @@ returns-2 c =
 
 pub right-shape-spec : {M : Type 1} → statement M
 right-shape-spec =
-    tie.close (tie.spec cast-if1 returns cast-result sub-result mul-result returns-2)
+    tie.close (tie.spec cast-if1 returns cast-result sub-result (λ c. search needs) returns-2)

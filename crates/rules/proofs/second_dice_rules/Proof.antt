@@ -8,12 +8,6 @@ use Rattle.protocol.specs.Rules.{secondDiceRules}
 use Rattle.rules.proofs.second_dice_rules.Statement.{statement}
 use Rattle.rules.proofs.second_dice_rules.Tie as tie
 
-add-fair-dice : tie.Need-add-fair-dice
-add-fair-dice c = search needs
-
-fair-dice-requires : tie.Need-fair-dice-requires
-fair-dice-requires c κs = search needs
-
 returns : tie.Need-returns
 unfolding secondDiceRules secondDiceOf
 returns c = rw (← c .before .before .before .pre .0) (rule-stop 6 _ _ (sym (c .before .fair-dice .ensures) ∙ not-true _ (c .if1 .taken)))
@@ -23,4 +17,4 @@ unfolding secondDiceRules secondDiceOf
 returns-2 c = rw (← c .before .before .before .pre .0) (rule-go 6 _ _ (sym (c .before .fair-dice .ensures) ∙ not-false _ (c .if1 .left)) refl)
 
 pub second-dice-rules-spec : {M : Type 1} → statement M
-second-dice-rules-spec = tie.close (tie.spec add-fair-dice fair-dice-requires returns returns-2)
+second-dice-rules-spec = tie.close (tie.spec (λ c. search needs) (λ c κs. search needs) returns returns-2)

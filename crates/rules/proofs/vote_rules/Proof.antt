@@ -11,24 +11,9 @@ use Rattle.protocol.specs.Rules.{voteRules}
 use Rattle.rules.proofs.vote_rules.Statement.{statement}
 use Rattle.rules.proofs.vote_rules.Tie as tie
 
-add-read2 : tie.Need-add-read2
-add-read2 c = search needs
-
-read2-requires : tie.Need-read2-requires
-read2-requires c κs = search needs
-
-cast-if1 : tie.Need-cast-if1
-cast-if1 c = search needs
-
 returns : tie.Need-returns
 unfolding voteRules
 returns c = rw (← c .before .before .before .pre .0) (rule-stop 4 _ _ (not-equal (λ e. omega arith)))
-
-add-read4 : tie.Need-add-read4
-add-read4 c = search needs
-
-read4-requires : tie.Need-read4-requires
-read4-requires c κs = search needs
 
 -- the vote of the command
 vote-read : (c : tie.After-read4) → c .read4 .result ≡ voteOf (c .before .before .before .before .args .p) (c .before .before .before .before .args .bytes .now) (c .before .before .before .before .args .i)
@@ -54,9 +39,6 @@ sub-read4 : tie.Need-sub-read4
 unfolding atVote
 sub-read4 c = omega arith
 
-read4-requires-2 : tie.Need-read4-requires-2
-read4-requires-2 c κs = search needs
-
 -- the vote before
 before-read : (c : tie.After-read42) → c .read42 .result ≡ voteOf (c .before .before .before .before .before .before .before .before .args .p) (c .before .before .before .before .before .before .before .before .args .bytes .now) (c .before .before .before .before .before .before .before .before .args .i - 1)
 unfolding voteOf atVote
@@ -75,15 +57,15 @@ pub vote-rules-spec : {M : Type 1} → statement M
 vote-rules-spec =
     tie.close
     (tie.spec
-    add-read2
-    read2-requires
-    cast-if1
+    (λ c. search needs)
+    (λ c κs. search needs)
+    (λ c. search needs)
     returns
-    add-read4
-    read4-requires
+    (λ c. search needs)
+    (λ c κs. search needs)
     returns-2
     returns-3
     sub-read4
-    read4-requires-2
+    (λ c κs. search needs)
     returns-4
     returns-5)

@@ -28,23 +28,11 @@ abbrev μ-loop : tie.MeasureT-loop
 loop-holds : tie.Need-loop-holds Inv-loop μ-loop
 loop-holds c = (omega arith, row-start _)
 
-at-ballot-requires : tie.Need-at-ballot-requires Inv-loop μ-loop
-at-ballot-requires c κs = omega arith
-
-step-requires : tie.Need-step-requires Inv-loop μ-loop
-step-requires c κs = search needs
-
 returns : tie.Need-returns Inv-loop μ-loop
 unfolding ballotFaults
 returns c =
     let g = c .before .before .before .before in
     row-stop _ _ (g .loop .j) (omega arith) (g .loop .inv .1) (found-fault _ _ _ _ (c .before .before .at-ballot .ensures .0) (c .before .step .ensures) (c .if1 .taken)) refl
-
-add-j : tie.Need-add-j Inv-loop μ-loop
-add-j c = omega arith
-
-loop-less : tie.Need-loop-less Inv-loop μ-loop
-loop-less c = omega arith
 
 loop-again : tie.Need-loop-again Inv-loop μ-loop
 loop-again c =
@@ -62,10 +50,10 @@ ballot-faults-spec =
     Inv-loop
     μ-loop
     loop-holds
-    at-ballot-requires
-    step-requires
+    (λ c κs. omega arith)
+    (λ c κs. search needs)
     returns
-    add-j
-    loop-less
+    (λ c. omega arith)
+    (λ c. omega arith)
     loop-again
     returns-2)

@@ -28,22 +28,10 @@ loop-holds c = (omega arith, row-start _, refl)
 links-if-compared-requires : tie.Need-links-if-compared-requires Inv-loop μ-loop
 links-if-compared-requires c κs = (c .before .before .before .before .pre .0, c .before .before .before .before .pre .1, omega arith, c .before .loop .inv .2, omega (arith, set-few (maskOf (c .before .before .before .before .args .p) (c .before .before .before .before .args .bytes .now)) (c .before .loop .l)))
 
-enum-told : tie.Need-enum-told Inv-loop μ-loop
-enum-told c = search needs
-
-enum-told-2 : tie.Need-enum-told-2 Inv-loop μ-loop
-enum-told-2 c = search needs
-
 returns : tie.Need-returns Inv-loop μ-loop
 returns c =
     let g = c .before .before .before .before in
     row-stop _ _ (g .loop .l) (omega arith) (g .loop .inv .1) (c .before .before .links-if-compared .ensures) (c .enum-told2 .given .1)
-
-cast-rank : tie.Need-cast-rank Inv-loop μ-loop
-cast-rank c = omega arith
-
-shr-rank : tie.Need-shr-rank Inv-loop μ-loop
-shr-rank c = omega arith
 
 cast-rank-2 : tie.Need-cast-rank-2 Inv-loop μ-loop
 cast-rank-2 c = omega (arith, bit-small (c .before .before .before .before .before .before .before .args .mask) (c .before .before .before .before .loop .l))
@@ -52,12 +40,6 @@ add-rank : tie.Need-add-rank Inv-loop μ-loop
 add-rank c =
     let g = c .before .before .before .before in
     omega (arith, bit-small (c .before .before .before .before .before .before .before .args .mask) (g .loop .l), set-few (maskOf (c .before .before .before .before .before .before .before .args .p) (c .before .before .before .before .before .before .before .args .bytes .now)) (g .loop .l))
-
-add-l : tie.Need-add-l Inv-loop μ-loop
-add-l c = omega arith
-
-loop-less : tie.Need-loop-less Inv-loop μ-loop
-loop-less c = omega arith
 
 loop-again : tie.Need-loop-again Inv-loop μ-loop
 loop-again c =
@@ -76,14 +58,14 @@ compared-faults-spec =
     lists-requires
     loop-holds
     links-if-compared-requires
-    enum-told
-    enum-told-2
+    (λ c. search needs)
+    (λ c. search needs)
     returns
-    cast-rank
-    shr-rank
+    (λ c. omega arith)
+    (λ c. omega arith)
     cast-rank-2
     add-rank
-    add-l
-    loop-less
+    (λ c. omega arith)
+    (λ c. omega arith)
     loop-again
     returns-2)

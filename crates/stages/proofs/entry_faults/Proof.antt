@@ -31,20 +31,11 @@ loop-holds c = (omega arith, row-start _)
 at-entry-requires : tie.Need-at-entry-requires Inv-loop μ-loop
 at-entry-requires c κs = (c .before .before .before .pre .0, (c .before .before .before .pre .1, omega arith))
 
-step-requires : tie.Need-step-requires Inv-loop μ-loop
-step-requires c κs = search needs
-
 returns : tie.Need-returns Inv-loop μ-loop
 unfolding entryFaults
 returns c =
     let g = c .before .before .before .before in
     row-stop _ _ (g .loop .i) (omega arith) (g .loop .inv .1) (found-fault _ _ _ _ (c .before .before .at-entry .ensures .0) (c .before .step .ensures) (c .if1 .taken)) refl
-
-add-i : tie.Need-add-i Inv-loop μ-loop
-add-i c = omega arith
-
-loop-less : tie.Need-loop-less Inv-loop μ-loop
-loop-less c = omega arith
 
 loop-again : tie.Need-loop-again Inv-loop μ-loop
 loop-again c =
@@ -63,9 +54,9 @@ entry-faults-spec =
     μ-loop
     loop-holds
     at-entry-requires
-    step-requires
+    (λ c κs. search needs)
     returns
-    add-i
-    loop-less
+    (λ c. omega arith)
+    (λ c. omega arith)
     loop-again
     returns-2)

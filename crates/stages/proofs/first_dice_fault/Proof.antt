@@ -8,12 +8,6 @@ use Rattle.stages.proofs.Known.{text-at}
 use Rattle.stages.proofs.first_dice_fault.Statement.{statement}
 use Rattle.stages.proofs.first_dice_fault.Tie as tie
 
-at-first-dice-requires : tie.Need-at-first-dice-requires
-at-first-dice-requires c κs = search needs
-
-dice-text-requires : tie.Need-dice-text-requires
-dice-text-requires c κs = search needs
-
 step-requires : tie.Need-step-requires
 unfolding firstDiceOf
 step-requires c κs =
@@ -36,8 +30,8 @@ pub first-dice-fault-spec : {M : Type 1} → statement M
 first-dice-fault-spec =
     tie.close
     (tie.spec
-    at-first-dice-requires
-    dice-text-requires
+    (λ c κs. search needs)
+    (λ c κs. search needs)
     step-requires
     returns
     returns-2)

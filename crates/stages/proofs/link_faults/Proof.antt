@@ -88,9 +88,6 @@ array-write-marks c = marked c
 add-j : tie.Need-add-j Inv-loop μ-loop
 add-j c = omega (arith, c .before .before .before .before .before .before .before .before .pre .0 .few .ballots)
 
-loop-less : tie.Need-loop-less Inv-loop μ-loop
-loop-less c = omega arith
-
 loop-again : tie.Need-loop-again Inv-loop μ-loop
 loop-again c =
     let g = c .before .before .before .before .before .before .loop in
@@ -120,6 +117,6 @@ link-faults-spec =
     cast-position
     array-write-marks
     add-j
-    loop-less
+    (λ c. omega arith)
     loop-again
     returns-2)

@@ -5,17 +5,8 @@ use Rattle.stages.proofs.Known.{bit-is, bit-not}
 use Rattle.stages.proofs.links_if_compared.Statement.{statement}
 use Rattle.stages.proofs.links_if_compared.Tie as tie
 
-cast-if1 : tie.Need-cast-if1
-cast-if1 c = search needs
-
-shr-if1 : tie.Need-shr-if1
-shr-if1 c = search needs
-
 returns : tie.Need-returns
 returns c = let s = c .before .before in compared-pass _ _ _ _ (bit-is (s .args .l) (s .pre .1) (c .if1 .taken))
-
-link-faults-requires : tie.Need-link-faults-requires
-link-faults-requires c κs = search needs
 
 returns-2 : tie.Need-returns-2
 returns-2 c = let s = c .before .before .before in compared-go _ _ _ _ (bit-not (s .args .l) (s .pre .1) (c .before .if1 .left)) (c .link-faults .ensures)
@@ -24,8 +15,8 @@ pub links-if-compared-spec : {M : Type 1} → statement M
 links-if-compared-spec =
     tie.close
     (tie.spec
-    cast-if1
-    shr-if1
+    (λ c. search needs)
+    (λ c. search needs)
     returns
-    link-faults-requires
+    (λ c κs. search needs)
     returns-2)

@@ -25,22 +25,10 @@ loop-holds c = (omega arith, row-start _)
 entry-faults-requires : tie.Need-entry-faults-requires Inv-loop μ-loop
 entry-faults-requires c κs = (c .before .before .before .before .pre, omega arith)
 
-enum-told : tie.Need-enum-told Inv-loop μ-loop
-enum-told c = search needs
-
-enum-told-2 : tie.Need-enum-told-2 Inv-loop μ-loop
-enum-told-2 c = search needs
-
 returns : tie.Need-returns Inv-loop μ-loop
 returns c =
     let g = c .before .before .before .before in
     row-stop _ _ (g .loop .l) (omega arith) (g .loop .inv .1) (c .before .before .entry-faults .ensures) (c .enum-told2 .given .1)
-
-add-l : tie.Need-add-l Inv-loop μ-loop
-add-l c = omega arith
-
-loop-less : tie.Need-loop-less Inv-loop μ-loop
-loop-less c = omega arith
 
 loop-again : tie.Need-loop-again Inv-loop μ-loop
 loop-again c =
@@ -59,10 +47,10 @@ list-faults-spec =
     lists-requires
     loop-holds
     entry-faults-requires
-    enum-told
-    enum-told-2
+    (λ c. search needs)
+    (λ c. search needs)
     returns
-    add-l
-    loop-less
+    (λ c. omega arith)
+    (λ c. omega arith)
     loop-again
     returns-2)

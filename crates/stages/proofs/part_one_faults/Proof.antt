@@ -5,21 +5,9 @@ use Rattle.stages.proofs.Stages.{passed-as, then-fault, then-rest}
 use Rattle.stages.proofs.part_one_faults.Statement.{statement}
 use Rattle.stages.proofs.part_one_faults.Tie as tie
 
-ballot-faults-requires : tie.Need-ballot-faults-requires
-ballot-faults-requires c κs = search needs
-
-enum-told : tie.Need-enum-told
-enum-told c = search needs
-
-enum-told-2 : tie.Need-enum-told-2
-enum-told-2 c = search needs
-
 returns : tie.Need-returns
 unfolding partOneFaults
 returns c = then-fault _ _ (c .before .before .ballot-faults .ensures) (c .enum-told2 .given .1)
-
-list-faults-requires : tie.Need-list-faults-requires
-list-faults-requires c κs = search needs
 
 returns-2 : tie.Need-returns-2
 unfolding partOneFaults
@@ -28,4 +16,4 @@ returns-2 c = then-rest _ _ (passed-as (c .before .before .before .ballot-faults
 pub part-one-faults-spec : {M : Type 1} → statement M
 part-one-faults-spec =
     tie.close
-    (tie.spec ballot-faults-requires enum-told enum-told-2 returns list-faults-requires returns-2)
+    (tie.spec (λ c κs. search needs) (λ c. search needs) (λ c. search needs) returns (λ c κs. search needs) returns-2)

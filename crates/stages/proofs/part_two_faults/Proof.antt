@@ -10,24 +10,9 @@ use Rattle.protocol.specs.Rules.{fault}
 use Rattle.stages.proofs.part_two_faults.Statement.{statement}
 use Rattle.stages.proofs.part_two_faults.Tie as tie
 
-first-dice-fault-requires : tie.Need-first-dice-fault-requires
-first-dice-fault-requires c κs = search needs
-
-enum-told : tie.Need-enum-told
-enum-told c = search needs
-
-enum-told-2 : tie.Need-enum-told-2
-enum-told-2 c = search needs
-
 returns : tie.Need-returns
 unfolding partTwoFaults
 returns c = then-fault _ _ (c .before .before .first-dice-fault .ensures) (c .enum-told2 .given .1)
-
-at-first-dice-requires : tie.Need-at-first-dice-requires
-at-first-dice-requires c κs = search needs
-
-add-read4 : tie.Need-add-read4
-add-read4 c = search needs
 
 -- the first dice stand
 dice : (c : tie.After-enum-told) → (let s = c .before .before .before .before .args in fault (s .p) (s .bytes .now) (s .drawn) FirstDice ≡ 0)
@@ -53,12 +38,12 @@ pub part-two-faults-spec : {M : Type 1} → statement M
 part-two-faults-spec =
     tie.close
     (tie.spec
-    first-dice-fault-requires
-    enum-told
-    enum-told-2
+    (λ c κs. search needs)
+    (λ c. search needs)
+    (λ c. search needs)
     returns
-    at-first-dice-requires
-    add-read4
+    (λ c κs. search needs)
+    (λ c. search needs)
     read4-requires
     compared-faults-requires
     returns-2)

@@ -7,9 +7,6 @@ use Rattle.tablet.proofs.Unrefused.{cast-ready}
 use Rattle.tablet.proofs.cast.Statement.{statement}
 use Rattle.tablet.proofs.cast.Tie as tie
 
-refuse-requires : tie.Need-refuse-requires
-refuse-requires c κs = search needs
-
 returns : tie.Need-returns
 returns c =
     let r = c .before .refuse .ensures in
@@ -24,12 +21,6 @@ put-command-requires c κs = cast-ready _ _ _ _ _ _ _ _ _ _ _ (c .before .before
 put-receipt-requires : tie.Need-put-receipt-requires
 put-receipt-requires c κs = cast-ready _ _ _ _ _ _ _ _ _ _ _ (c .before .before .before .before .before .before .before .refuse .ensures) (c .before .before .before .before .before .before .if1 .left) .1
 
-same-length : tie.Need-same-length
-same-length c = search needs
-
-same-length-2 : tie.Need-same-length-2
-same-length-2 c = search needs
-
 returns-2 : tie.Need-returns-2
 returns-2 c =
     let r = c .before .before .before .before .before .before .before .before .before .before .refuse .ensures in
@@ -43,10 +34,10 @@ pub cast-spec : {M : Type 1} → statement M
 cast-spec =
     tie.close
     (tie.spec
-    refuse-requires
+    (λ c κs. search needs)
     returns
     put-command-requires
     put-receipt-requires
-    same-length
-    same-length-2
+    (λ c. search needs)
+    (λ c. search needs)
     returns-2)

@@ -9,12 +9,6 @@ use Rattle.tablet.proofs.Ballot.{three-below, ballot-length, ballot-is}
 use Rattle.tablet.proofs.put_command.Statement.{statement}
 use Rattle.tablet.proofs.put_command.Tie as tie
 
-minus-requires : tie.Need-minus-requires
-minus-requires c κs = search needs
-
-minus-requires-2 : tie.Need-minus-requires-2
-minus-requires-2 c κs = search needs
-
 put-ballot-requires : tie.Need-put-ballot-requires
 put-ballot-requires c κs =
     let pre = c .before .before .before .before .before .pre in (
@@ -24,9 +18,6 @@ put-ballot-requires c κs =
       },
       (pre .keys-long, omega arith),
     )
-
-same-length : tie.Need-same-length
-same-length c = search needs
 
 returns : tie.Need-returns
 returns c =
@@ -38,4 +29,4 @@ returns c =
 
 pub put-command-spec : {M : Type 1} → statement M
 put-command-spec =
-    tie.close (tie.spec minus-requires minus-requires-2 put-ballot-requires same-length returns)
+    tie.close (tie.spec (λ c κs. search needs) (λ c κs. search needs) put-ballot-requires (λ c. search needs) returns)

@@ -11,20 +11,11 @@ use Rattle.protocol.specs.Tablet.{receipt}
 use Rattle.tablet.proofs.put_receipt.Statement.{statement}
 use Rattle.tablet.proofs.put_receipt.Tie as tie
 
-sha3-224-requires : tie.Need-sha3-224-requires
-sha3-224-requires c κs = search needs
-
-put4-requires : tie.Need-put4-requires
-put4-requires c κs = search needs
-
 slice-aggregate-copy : tie.Need-slice-aggregate-copy
 slice-aggregate-copy c = omega (arith, ap length (c .before .before .before .before .before .before .sha3-224 .ensures) ∙ sha3-224-length _)
 
 copy-requires : tie.Need-copy-requires
 copy-requires c κs = omega (arith, ap length (c .before .before .before .before .before .before .sha3-224 .ensures) ∙ sha3-224-length _, length-bytes 4 (c .before .before .before .before .before .before .before .before .before .before .args .id))
-
-same-length : tie.Need-same-length
-same-length c = search needs
 
 returns : tie.Need-returns
 unfolding receipt
@@ -38,9 +29,9 @@ pub put-receipt-spec : {M : Type 1} → statement M
 put-receipt-spec =
     tie.close
     (tie.spec
-    sha3-224-requires
-    put4-requires
+    (λ c κs. search needs)
+    (λ c κs. search needs)
     slice-aggregate-copy
     copy-requires
-    same-length
+    (λ c. search needs)
     returns)

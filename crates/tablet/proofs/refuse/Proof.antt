@@ -9,9 +9,6 @@ use Rattle.tablet.proofs.Unrefused.{six-below}
 use Rattle.tablet.proofs.refuse.Statement.{statement}
 use Rattle.tablet.proofs.refuse.Tie as tie
 
-modulus-in-limits-requires : tie.Need-modulus-in-limits-requires
-modulus-in-limits-requires c κs = search needs
-
 returns : tie.Need-returns
 unfolding tabletRefusal
 returns c = rule-stop _ _ _ (failed (c .before .modulus-in-limits .ensures) (c .if1 .taken))
@@ -27,12 +24,6 @@ returns-3 c = rule-go _ _ _ (held (c .before .before .before .modulus-in-limits 
 returns-4 : tie.Need-returns-4
 unfolding tabletRefusal
 returns-4 c = rule-go _ _ _ (held (c .before .before .before .before .modulus-in-limits .ensures) (c .before .before .before .if1 .left)) (rule-stop _ _ _ (sym (and-go _ _ (is-equal (omega arith)) (and-go _ _ (is-equal (omega arith)) (sym (not-equal (omega arith)))))))
-
-slice-aggregate-all-below : tie.Need-slice-aggregate-all-below
-slice-aggregate-all-below c = search needs
-
-all-below-requires : tie.Need-all-below-requires
-all-below-requires c κs = search needs
 
 returns-5 : tie.Need-returns-5
 unfolding tabletRefusal
@@ -52,12 +43,12 @@ pub refuse-spec : {M : Type 1} → statement M
 refuse-spec =
     tie.close
     (tie.spec
-    modulus-in-limits-requires
+    (λ c κs. search needs)
     returns
     returns-2
     returns-3
     returns-4
-    slice-aggregate-all-below
-    all-below-requires
+    (λ c. search needs)
+    (λ c κs. search needs)
     returns-5
     returns-6)

@@ -9,21 +9,6 @@ use Rattle.tally.proofs.is_fresh.Tie as tie
 returns : tie.Need-returns
 returns c = or-stop _ _ (is-equal (c .if1 .taken))
 
-sub-result : tie.Need-sub-result
-sub-result c = search needs
-
-mul-result : tie.Need-mul-result
-mul-result c = search needs
-
-shared-slice-read-result : tie.Need-shared-slice-read-result
-shared-slice-read-result c = search needs
-
-mul-result-2 : tie.Need-mul-result-2
-mul-result-2 c = search needs
-
-shared-slice-read-result-2 : tie.Need-shared-slice-read-result-2
-shared-slice-read-result-2 c = search needs
-
 returns-2 : tie.Need-returns-2
 unfolding differ
 returns-2 c = or-go _ _ (not-equal (omega arith)) refl
@@ -33,9 +18,9 @@ is-fresh-spec =
     tie.close
     (tie.spec
     returns
-    sub-result
-    mul-result
-    shared-slice-read-result
-    mul-result-2
-    shared-slice-read-result-2
+    (λ c. search needs)
+    (λ c. search needs)
+    (λ c. search needs)
+    (λ c. search needs)
+    (λ c. search needs)
     returns-2)

@@ -54,9 +54,6 @@ put1-requires-2 c κs =
       d .put-decimal2 .ensures .wrote .long,
     )
 
-same-length : tie.Need-same-length
-same-length c = search needs
-
 returns : tie.Need-returns
 unfolding tallyLine bytes
 returns c =
@@ -74,5 +71,5 @@ put-line-spec =
     put1-requires
     put-decimal-requires-2
     put1-requires-2
-    same-length
+    (λ c. search needs)
     returns)

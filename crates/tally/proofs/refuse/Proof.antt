@@ -45,21 +45,6 @@ returns-3 c = rule-stop _ _ _ (sym (and-go _ _ (is-atMost (omega arith)) (and-go
 loop-holds : tie.Need-loop-holds Inv-loop μ-loop
 loop-holds c = (omega arith, first (c .before .before .before .args .votes .now))
 
-mul-if4 : tie.Need-mul-if4 Inv-loop μ-loop
-mul-if4 c = omega arith
-
-shared-slice-read-if4 : tie.Need-shared-slice-read-if4 Inv-loop μ-loop
-shared-slice-read-if4 c = omega arith
-
-sub-if4 : tie.Need-sub-if4 Inv-loop μ-loop
-sub-if4 c = omega arith
-
-mul-if4-2 : tie.Need-mul-if4-2 Inv-loop μ-loop
-mul-if4-2 c = omega arith
-
-shared-slice-read-if4-2 : tie.Need-shared-slice-read-if4-2 Inv-loop μ-loop
-shared-slice-read-if4-2 c = omega arith
-
 returns-4 : tie.Need-returns-4 Inv-loop μ-loop
 unfolding tallyRefusal
 returns-4 c =
@@ -67,12 +52,6 @@ returns-4 c =
     let votes = at .before .before .before .before .args .votes .now in
     rule-go _ _ _ (long votes _ _ (omega arith) (omega arith) (omega arith))
     (rule-stop _ _ _ (sym (every-stop (standsAt votes) (length votes) (at .loop .i) (omega arith) (sym (or-go _ _ (not-equal (omega arith)) (sym (not-atMost (c .if4 .taken))))))))
-
-add-i : tie.Need-add-i Inv-loop μ-loop
-add-i c = omega arith
-
-loop-less : tie.Need-loop-less Inv-loop μ-loop
-loop-less c = omega arith
 
 loop-again : tie.Need-loop-again Inv-loop μ-loop
 loop-again c =
@@ -97,13 +76,13 @@ refuse-spec =
     returns-2
     returns-3
     loop-holds
-    mul-if4
-    shared-slice-read-if4
-    sub-if4
-    mul-if4-2
-    shared-slice-read-if4-2
+    (λ c. omega arith)
+    (λ c. omega arith)
+    (λ c. omega arith)
+    (λ c. omega arith)
+    (λ c. omega arith)
     returns-4
-    add-i
-    loop-less
+    (λ c. omega arith)
+    (λ c. omega arith)
     loop-again
     returns-5)

@@ -5,9 +5,6 @@ use Rattle.tally.proofs.Endings.{refused, done, ready}
 use Rattle.tally.proofs.tally.Statement.{statement}
 use Rattle.tally.proofs.tally.Tie as tie
 
-refuse-requires : tie.Need-refuse-requires
-refuse-requires c κs = search needs
-
 returns : tie.Need-returns
 returns c =
     let e = c .before .refuse .ensures in
@@ -19,12 +16,6 @@ fill-requires c κs =
     let at = c .before .before in
     ready _ _ _ _ (at .before .refuse .ensures) (at .if1 .left)
 
-same-length : tie.Need-same-length
-same-length c = search needs
-
-same-length-2 : tie.Need-same-length-2
-same-length-2 c = search needs
-
 returns-2 : tie.Need-returns-2
 returns-2 c =
     let at = c .before .before .before .before in
@@ -35,4 +26,4 @@ returns-2 c =
 
 pub tally-spec : {M : Type 1} → statement M
 tally-spec =
-    tie.close (tie.spec refuse-requires returns fill-requires same-length same-length-2 returns-2)
+    tie.close (tie.spec (λ c κs. search needs) returns fill-requires (λ c. search needs) (λ c. search needs) returns-2)

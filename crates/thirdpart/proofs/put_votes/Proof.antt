@@ -21,35 +21,17 @@ abbrev μ-loop : tie.MeasureT-loop
 loop-holds : tie.Need-loop-holds Inv-loop μ-loop
 loop-holds c = (omega arith, start _ _ (omega arith))
 
-cast-put-vote : tie.Need-cast-put-vote Inv-loop μ-loop
-cast-put-vote c = omega arith
-
-mul-put-vote : tie.Need-mul-put-vote Inv-loop μ-loop
-mul-put-vote c = omega arith
-
-shared-slice-read-put-vote : tie.Need-shared-slice-read-put-vote Inv-loop μ-loop
-shared-slice-read-put-vote c = omega arith
-
 put-vote-requires : tie.Need-put-vote-requires Inv-loop μ-loop
 put-vote-requires c κs =
     let s = c .before .before .before .before .before .before .args in
     let g = c .before .before .before .loop in
     room-even (λ i. voteCommand i (item (s .votes .now) i)) 7 (g .i) (length (s .votes .now)) (λ i h. length-vote i _) (g .inv .1) (omega arith) (omega arith)
 
-add-i : tie.Need-add-i Inv-loop μ-loop
-add-i c = omega arith
-
-loop-less : tie.Need-loop-less Inv-loop μ-loop
-loop-less c = omega arith
-
 loop-again : tie.Need-loop-again Inv-loop μ-loop
 loop-again c =
     let s = c .before .before .before .before .before .before .before .before .before .args in
     let g = c .before .before .before .before .before .before .loop in
     (omega arith, go-turn (λ i. voteCommand i (item (s .votes .now) i)) (g .i) (g .inv .1) (c .before .before .put-vote .ensures))
-
-same-length : tie.Need-same-length Inv-loop μ-loop
-same-length c = omega arith
 
 returns : tie.Need-returns Inv-loop μ-loop
 returns c =
@@ -63,12 +45,12 @@ put-votes-spec =
     Inv-loop
     μ-loop
     loop-holds
-    cast-put-vote
-    mul-put-vote
-    shared-slice-read-put-vote
+    (λ c. omega arith)
+    (λ c. omega arith)
+    (λ c. omega arith)
     put-vote-requires
-    add-i
-    loop-less
+    (λ c. omega arith)
+    (λ c. omega arith)
     loop-again
-    same-length
+    (λ c. omega arith)
     returns)

@@ -23,24 +23,6 @@ list-fit m n lists few = omega (arith, lists-fit m (3 * n) lists)
 part-long : (size k : ℕ) → k ≤ size → length {A = ℕ} (take k (replicate size 0)) ≡ k
 part-long size k h = length-take-le k (replicate size 0) (omega (arith, length-replicate {A = ℕ} size 0))
 
-mul-place-room : tie.Need-mul-place-room
-mul-place-room c = search needs
-
-mul-place-room-2 : tie.Need-mul-place-room-2
-mul-place-room-2 c = search needs
-
-mul-row-room : tie.Need-mul-row-room
-mul-row-room c = search needs
-
-mul-list-room : tie.Need-mul-list-room
-mul-list-room c = search needs
-
-mul-list-room-2 : tie.Need-mul-list-room-2
-mul-list-room-2 c = search needs
-
-array-borrow-prefix-sorted : tie.Need-array-borrow-prefix-sorted
-array-borrow-prefix-sorted c = search needs
-
 slice-aggregate-write-in : tie.Need-slice-aggregate-write-in
 slice-aggregate-write-in c = let s = c .before .before .before .before .before .before .before .before .before .before .before in sym (part-long 1024 (s .args .ballots) (s .pre .inputs .tests .ballots-high))
 
@@ -49,9 +31,6 @@ array-borrow-prefix-positions c = let s = c .before .before .before .before .bef
 
 slice-aggregate-write-in-2 : tie.Need-slice-aggregate-write-in-2
 slice-aggregate-write-in-2 c = let s = c .before .before .before .before .before .before .before .before .before .before .before .before in sym (part-long 24576 (2 * s .args .compared * s .args .ballots) (place-fit (s .args .compared) (s .args .ballots) (s .pre .inputs .tests .compared-high) (s .pre .inputs .tests .ballots-high)))
-
-array-borrow-prefix-rows : tie.Need-array-borrow-prefix-rows
-array-borrow-prefix-rows c = search needs
 
 slice-aggregate-write-in-3 : tie.Need-slice-aggregate-write-in-3
 slice-aggregate-write-in-3 c = let s = c .before .before .before .before .before .before .before .before .before .before .before .before .before in sym (part-long 3072 (3 * s .args .ballots) (omega (arith, s .pre .inputs .tests .ballots-high)))
@@ -78,9 +57,6 @@ write-in-requires c κs =
       },
     )
 
-same-length : tie.Need-same-length
-same-length c = search needs
-
 returns : tie.Need-returns
 returns c = c .before .before .before .before .before .before .write-in .ensures
 
@@ -88,19 +64,19 @@ pub write-spec : {M : Type 1} → statement M
 write-spec =
     tie.close
     (tie.spec
-    mul-place-room
-    mul-place-room-2
-    mul-row-room
-    mul-list-room
-    mul-list-room-2
-    array-borrow-prefix-sorted
+    (λ c. search needs)
+    (λ c. search needs)
+    (λ c. search needs)
+    (λ c. search needs)
+    (λ c. search needs)
+    (λ c. search needs)
     slice-aggregate-write-in
     array-borrow-prefix-positions
     slice-aggregate-write-in-2
-    array-borrow-prefix-rows
+    (λ c. search needs)
     slice-aggregate-write-in-3
     array-borrow-prefix-mixed
     slice-aggregate-write-in-4
     write-in-requires
-    same-length
+    (λ c. search needs)
     returns)

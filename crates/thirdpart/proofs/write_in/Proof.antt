@@ -16,15 +16,6 @@ given-of start =
     let a = start .args in
     given (a .p .modulus) (a .p .ballots) (a .p .compared) (a .ids .now) (a .votes .now) (a .numbers .now) (a .permutations .now) (a .keys .now)
 
-mul-lists : tie.Need-mul-lists
-mul-lists c = search needs
-
-copy-votes-requires : tie.Need-copy-votes-requires
-copy-votes-requires c κs = search needs
-
-sort-numbers-requires : tie.Need-sort-numbers-requires
-sort-numbers-requires c κs = search needs
-
 place-all-requires : tie.Need-place-all-requires
 place-all-requires c κs =
     let start = c .before .before .before .before .before .before .before .before .before .before .before .before .before .before .before .before .before .before .before .before .before .before in
@@ -58,18 +49,6 @@ same-length c =
     let sorted = ap length (c .before .before .before .before .before .before .before .before .before .before .before .before .before .before .before .before .before .before .before .before .before .before .before .sort-numbers .ensures ∙ ap sort (c .before .before .before .before .before .before .before .before .before .before .before .before .before .before .before .before .before .before .before .before .before .before .before .before .before .before .before .copy-votes .ensures)) ∙ length-sort (start .args .votes .now) in
     omega (arith, sorted, start .pre .0 .inputs .tests .votes-long, start .pre .1 .sorted-long)
 
-same-length-2 : tie.Need-same-length-2
-same-length-2 c = search needs
-
-same-length-3 : tie.Need-same-length-3
-same-length-3 c = search needs
-
-same-length-4 : tie.Need-same-length-4
-same-length-4 c = search needs
-
-same-length-5 : tie.Need-same-length-5
-same-length-5 c = search needs
-
 returns : tie.Need-returns
 returns c =
     let start = c .before .before .before .before .before .before .before .before .before .before .before .before .before .before .before .before .before .before .before .before .before .before .before .before .before .before .before .before .before .before .before .before .before .before .before .before .before .before .before .before .before .before in
@@ -83,16 +62,16 @@ pub write-in-spec : {M : Type 1} → statement M
 write-in-spec =
     tie.close
     (tie.spec
-    mul-lists
-    copy-votes-requires
-    sort-numbers-requires
+    (λ c. search needs)
+    (λ c κs. search needs)
+    (λ c κs. search needs)
     place-all-requires
     fill-rows-requires
     mix-all-requires
     write-rows-requires
     same-length
-    same-length-2
-    same-length-3
-    same-length-4
-    same-length-5
+    (λ c. search needs)
+    (λ c. search needs)
+    (λ c. search needs)
+    (λ c. search needs)
     returns)

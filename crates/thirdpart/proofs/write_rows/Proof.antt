@@ -52,9 +52,6 @@ put-end-requires c κs =
     let full = c .before .before .before .put-opened .ensures in
     omega (arith, pre .1 .1 .1, dice .to, dice .wrote .long, half .to, half .wrote .long, vote .to, vote .wrote .long, full .to, full .wrote .long, length-second-dice (s .args .dice .now) (pre .1 .0), halves-long (pre .0), votes-long (s .args .votes .now) (s .args .p .ballots), opened-long (pre .0 .halves .linked .opened))
 
-same-length : tie.Need-same-length
-same-length c = search needs
-
 returns : tie.Need-returns
 returns c =
     let s = c .before .before .before .before .before .before .before .before .before .before .before .before .before .before .before .before .before .before .before .before .before .before .before .before .before .before .before .before .before in
@@ -72,5 +69,5 @@ write-rows-spec =
     put-votes-requires
     put-opened-requires
     put-end-requires
-    same-length
+    (λ c. search needs)
     returns)

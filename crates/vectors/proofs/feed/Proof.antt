@@ -17,15 +17,6 @@ abbrev μ-loop : tie.MeasureT-loop
 piece : (left most : ℕ) → 0 < most → 0 < left → ((left - 1) % most + 1 ≤ most) × ((left - 1) % most + 1 ≤ left)
 piece left most h k = let a = mod-lt (left - 1) h in let b = mod-le (left - 1) most in (omega arith, omega arith)
 
-loop-holds : tie.Need-loop-holds Inv-loop μ-loop
-loop-holds c = search needs
-
-sub-n : tie.Need-sub-n Inv-loop μ-loop
-sub-n c = omega arith
-
-rem-n : tie.Need-rem-n Inv-loop μ-loop
-rem-n c = omega arith
-
 add-n : tie.Need-add-n Inv-loop μ-loop
 add-n c = omega (arith, piece (c .before .loop .left) (c .before .loop .most) (omega arith) (omega arith))
 
@@ -35,14 +26,8 @@ slice-aggregate-absorb c =
     let h = piece (l .left) (l .most) (omega arith) (omega arith) in
     simp length-take (omega arith)
 
-absorb-requires : tie.Need-absorb-requires Inv-loop μ-loop
-absorb-requires c κs = search needs
-
 sub-left : tie.Need-sub-left Inv-loop μ-loop
 sub-left c = let l = c .before .before .before .loop in piece (l .left) (l .most) (omega arith) (omega arith) .1
-
-rem-most : tie.Need-rem-most Inv-loop μ-loop
-rem-most c = omega arith
 
 add-most : tie.Need-add-most Inv-loop μ-loop
 add-most c =
@@ -67,14 +52,14 @@ feed-spec =
     (tie.spec
     Inv-loop
     μ-loop
-    loop-holds
-    sub-n
-    rem-n
+    (λ c. search needs)
+    (λ c. omega arith)
+    (λ c. omega arith)
     add-n
     slice-aggregate-absorb
-    absorb-requires
+    (λ c κs. search needs)
     sub-left
-    rem-most
+    (λ c. omega arith)
     add-most
     loop-less
     loop-again

@@ -6,9 +6,6 @@ use Rattle.verifier.proofs.Verdicts.{first-alike}
 use Rattle.verifier.proofs.first_command_fault.Statement.{statement}
 use Rattle.verifier.proofs.first_command_fault.Tie as tie
 
-step-requires : tie.Need-step-requires
-step-requires c κs = search needs
-
 returns : tie.Need-returns
 returns c = found-fault _ _ _ _ refl (c .before .step .ensures) (c .if1 .taken) ∙ first-alike _ _ _ _
 
@@ -19,6 +16,6 @@ pub first-command-fault-spec : {M : Type 1} → statement M
 first-command-fault-spec =
     tie.close
     (tie.spec
-    step-requires
+    (λ c κs. search needs)
     returns
     returns-2)

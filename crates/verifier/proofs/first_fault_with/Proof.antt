@@ -13,15 +13,6 @@ use Rattle.protocol.specs.Rules.{fault}
 use Rattle.verifier.proofs.first_fault_with.Statement.{statement}
 use Rattle.verifier.proofs.first_fault_with.Tie as tie
 
-first-command-fault-requires : tie.Need-first-command-fault-requires
-first-command-fault-requires c κs = search needs
-
-enum-told : tie.Need-enum-told
-enum-told c = search needs
-
-enum-told-2 : tie.Need-enum-told-2
-enum-told-2 c = search needs
-
 returns : tie.Need-returns
 unfolding firstFault
 returns c = then-fault _ _ (c .before .before .first-command-fault .ensures) (c .enum-told2 .given .1)
@@ -48,9 +39,9 @@ pub first-fault-with-spec : {M : Type 1} → statement M
 first-fault-with-spec =
     tie.close
     (tie.spec
-    first-command-fault-requires
-    enum-told
-    enum-told-2
+    (λ c κs. search needs)
+    (λ c. search needs)
+    (λ c. search needs)
     returns
     parameters-requires
     rest-faults-requires

@@ -5,15 +5,6 @@ use Rattle.verifier.proofs.Verdicts.{accepted-is, refused-is}
 use Rattle.verifier.proofs.judge.Statement.{statement}
 use Rattle.verifier.proofs.judge.Tie as tie
 
-first-fault-requires : tie.Need-first-fault-requires
-first-fault-requires c κs = search needs
-
-enum-told : tie.Need-enum-told
-enum-told c = search needs
-
-enum-known-k : tie.Need-enum-known-k
-enum-known-k c = search needs
-
 returns : tie.Need-returns
 returns c = accepted-is _ _ (passed-as (c .before .before .first-fault .ensures) (c .enum-told .given .1))
 
@@ -21,4 +12,4 @@ returns-2 : tie.Need-returns-2
 returns-2 c = refused-is _ _ (c .before .k .given .0 .0) (passed-as (c .before .before .before .first-fault .ensures) (c .before .k .given .1))
 
 pub judge-spec : {M : Type 1} → statement M
-judge-spec = tie.close (tie.spec first-fault-requires enum-told enum-known-k returns returns-2)
+judge-spec = tie.close (tie.spec (λ c κs. search needs) (λ c. search needs) (λ c. search needs) returns returns-2)

@@ -7,21 +7,6 @@ use Rattle.protocol.specs.Record.{parametersOf}
 use Rattle.verifier.proofs.parameters.Statement.{statement}
 use Rattle.verifier.proofs.parameters.Tie as tie
 
-read4-requires : tie.Need-read4-requires
-read4-requires c κs = search needs
-
-read2-requires : tie.Need-read2-requires
-read2-requires c κs = search needs
-
-cast-t4 : tie.Need-cast-t4
-cast-t4 c = search needs
-
-read1-requires : tie.Need-read1-requires
-read1-requires c κs = search needs
-
-cast-t6 : tie.Need-cast-t6
-cast-t6 c = search needs
-
 -- parameters are the same where their numbers are
 same-parameters : {M M′ n n′ m m′ : ℕ} → M ≡ M′ → n ≡ n′ → m ≡ m′
     → _≡_ {A = Parameters} (record { modulus = M; ballots = n; compared = m }) (record { modulus = M′; ballots = n′; compared = m′ })
@@ -33,4 +18,4 @@ returns c = same-parameters (c .before .before .read4 .ensures .0) (c .before .r
 
 pub parameters-spec : {M : Type 1} → statement M
 parameters-spec =
-    tie.close (tie.spec read4-requires read2-requires cast-t4 read1-requires cast-t6 returns)
+    tie.close (tie.spec (λ c κs. search needs) (λ c κs. search needs) (λ c. search needs) (λ c κs. search needs) (λ c. search needs) returns)

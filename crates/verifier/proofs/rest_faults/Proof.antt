@@ -15,23 +15,8 @@ use Rattle.protocol.proofs.Lengths.{first-dice-inside}
 use Rattle.verifier.proofs.rest_faults.Statement.{statement}
 use Rattle.verifier.proofs.rest_faults.Tie as tie
 
-part-one-faults-requires : tie.Need-part-one-faults-requires
-part-one-faults-requires c κs = search needs
-
-enum-told : tie.Need-enum-told
-enum-told c = search needs
-
-enum-told-2 : tie.Need-enum-told-2
-enum-told-2 c = search needs
-
 returns : tie.Need-returns
 returns c = then-fault _ _ (c .before .before .part-one-faults .ensures) (c .enum-told2 .given .1)
-
-at-first-dice-requires : tie.Need-at-first-dice-requires
-at-first-dice-requires c κs = search needs
-
-start-requires : tie.Need-start-requires
-start-requires c κs = search needs
 
 -- part one stands, and reaches to the first dice
 one : (c : tie.After-enum-told) → (let s = c .before .before .before .before .args in partOneFaults (s .drawn) (s .p) (s .bytes .now) ≡ Nothing)
@@ -57,17 +42,8 @@ part-two-faults-requires c κs =
       prefix-is = λ d. prefix-start (s .args .bytes .now) (c .before .start .ensures) (c .before .before .at-first-dice .ensures .0) (c .take-in .ensures .1 d);
     }
 
-enum-told-3 : tie.Need-enum-told-3
-enum-told-3 c = search needs
-
-enum-told-4 : tie.Need-enum-told-4
-enum-told-4 c = search needs
-
 returns-2 : tie.Need-returns-2
 returns-2 c = then-rest _ _ (one (c .before .before .before .before .before .before)) (then-fault _ _ (c .before .before .part-two-faults .ensures) (c .enum-told4 .given .1))
-
-at-second-dice-requires : tie.Need-at-second-dice-requires
-at-second-dice-requires c κs = search needs
 
 -- so does part two, to the second dice
 two : (c : tie.After-enum-told3) → (let s = c .before .before .before .before .before .before .before .before .before .before .args in partTwoFaults (s .drawn) (s .p) (s .bytes .now) ≡ Nothing)
@@ -106,18 +82,18 @@ pub rest-faults-spec : {M : Type 1} → statement M
 rest-faults-spec =
     tie.close
     (tie.spec
-    part-one-faults-requires
-    enum-told
-    enum-told-2
+    (λ c κs. search needs)
+    (λ c. search needs)
+    (λ c. search needs)
     returns
-    at-first-dice-requires
-    start-requires
+    (λ c κs. search needs)
+    (λ c κs. search needs)
     take-in-requires
     part-two-faults-requires
-    enum-told-3
-    enum-told-4
+    (λ c. search needs)
+    (λ c. search needs)
     returns-2
-    at-second-dice-requires
+    (λ c κs. search needs)
     take-in-requires-2
     part-three-faults-requires
     returns-3)

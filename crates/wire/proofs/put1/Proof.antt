@@ -6,21 +6,9 @@ use Rattle.laws.specs.Writing.{put-set, wrote}
 use Rattle.wire.proofs.put1.Statement.{statement}
 use Rattle.wire.proofs.put1.Tie as tie
 
-cast-out : tie.Need-cast-out
-cast-out c = search needs
-
-slice-write-out : tie.Need-slice-write-out
-slice-write-out c = search needs
-
-add-result : tie.Need-add-result
-add-result c = search needs
-
-same-length : tie.Need-same-length
-same-length c = search needs
-
 returns : tie.Need-returns
 unfolding bytes
 returns c = record { wrote = wrote (put-set _ _ _ (omega arith)) (omega arith); to = omega arith }
 
 pub put1-spec : {M : Type 1} → statement M
-put1-spec = tie.close (tie.spec cast-out slice-write-out add-result same-length returns)
+put1-spec = tie.close (tie.spec (λ c. search needs) (λ c. search needs) (λ c. search needs) (λ c. search needs) returns)

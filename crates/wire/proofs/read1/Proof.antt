@@ -8,9 +8,6 @@ use Rattle.laws.specs.Bytes.{number}
 use Rattle.wire.proofs.read1.Statement.{statement}
 use Rattle.wire.proofs.read1.Tie as tie
 
-shared-slice-read-result : tie.Need-shared-slice-read-result
-shared-slice-read-result c = search needs
-
 cast-result : tie.Need-cast-result
 cast-result c = omega (arith, c .shared-slice-known .given (c .before .args .at))
 
@@ -23,4 +20,4 @@ returns c =
     (omega (arith, ap (λ (k : ℕ). getD s k 0) e), omega (arith, c .shared-slice-known .given at))
 
 pub read1-spec : {M : Type 1} → statement M
-read1-spec = tie.close (tie.spec shared-slice-read-result cast-result returns)
+read1-spec = tie.close (tie.spec (λ c. search needs) cast-result returns)

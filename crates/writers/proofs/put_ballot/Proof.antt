@@ -9,9 +9,6 @@ use Rattle.writers.proofs.Operands.{coded}
 use Rattle.writers.proofs.put_ballot.Statement.{statement}
 use Rattle.writers.proofs.put_ballot.Tie as tie
 
-put1-requires : tie.Need-put1-requires
-put1-requires c κs = search needs
-
 put4-requires : tie.Need-put4-requires
 put4-requires c κs = omega (arith, length-bytes 1 2)
 
@@ -20,9 +17,6 @@ put-six-commitments-requires c κs =
     let pre = c .before .before .before .before .before .before .before .before .before .before .before .pre in
     (pre .0, (pre .1 .0, omega (arith, length-bytes 1 2, length-bytes 4 (c .before .before .before .before .before .before .before .before .before .before .before .args .id))))
 
-same-length : tie.Need-same-length
-same-length c = search needs
-
 returns : tie.Need-returns
 unfolding ballotCommand
 returns c = go-on (coded 2 (omega arith) (c .before .before .before .before .before .before .before .before .before .before .put1 .ensures) (c .before .before .before .before .before .before .put4 .ensures)) (c .before .before .put-six-commitments .ensures (inBallot (c .before .before .before .before .before .before .before .before .before .before .before .before .before .before .args .id)))
@@ -30,4 +24,4 @@ returns c = go-on (coded 2 (omega arith) (c .before .before .before .before .bef
 pub put-ballot-spec : {M : Type 1} → statement M
 put-ballot-spec =
     tie.close
-    (tie.spec put1-requires put4-requires put-six-commitments-requires same-length returns)
+    (tie.spec (λ c κs. search needs) put4-requires put-six-commitments-requires (λ c. search needs) returns)

@@ -8,9 +8,6 @@ use Rattle.writers.proofs.Operands.{coded}
 use Rattle.writers.proofs.put_ballot_half.Statement.{statement}
 use Rattle.writers.proofs.put_ballot_half.Tie as tie
 
-put1-requires : tie.Need-put1-requires
-put1-requires c κs = search needs
-
 put2-requires : tie.Need-put2-requires
 put2-requires c κs = omega (arith, length-bytes 1 7)
 
@@ -23,9 +20,6 @@ put-three-openings-requires c κs =
     let args = c .before .before .before .before .before .before .before .before .before .before .before .before .before .before .before .args in
     (pre .0, (pre .1 .0, (pre .1 .1 .0, omega (arith, length-bytes 1 7, length-bytes 2 (args .j), length-bytes 1 (args .side)))))
 
-same-length : tie.Need-same-length
-same-length c = search needs
-
 returns : tie.Need-returns
 unfolding ballotHalfCommand
 returns c = go-on (go-on (coded 7 (omega arith) (c .before .before .before .before .before .before .before .before .before .before .before .before .before .before .put1 .ensures) (c .before .before .before .before .before .before .before .before .before .before .put2 .ensures)) (c .before .before .before .before .before .before .put12 .ensures)) (c .before .before .put-three-openings .ensures)
@@ -34,9 +28,9 @@ pub put-ballot-half-spec : {M : Type 1} → statement M
 put-ballot-half-spec =
     tie.close
     (tie.spec
-    put1-requires
+    (λ c κs. search needs)
     put2-requires
     put1-requires-2
     put-three-openings-requires
-    same-length
+    (λ c. search needs)
     returns)

@@ -4,15 +4,9 @@ use Rattle.laws.specs.Bytes.{bytes}
 use Rattle.writers.proofs.put_end.Statement.{statement}
 use Rattle.writers.proofs.put_end.Tie as tie
 
-put1-requires : tie.Need-put1-requires
-put1-requires c κs = search needs
-
-same-length : tie.Need-same-length
-same-length c = search needs
-
 returns : tie.Need-returns
 unfolding bytes
 returns c = c .before .before .put1 .ensures
 
 pub put-end-spec : {M : Type 1} → statement M
-put-end-spec = tie.close (tie.spec put1-requires same-length returns)
+put-end-spec = tie.close (tie.spec (λ c κs. search needs) (λ c. search needs) returns)

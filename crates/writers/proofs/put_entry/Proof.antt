@@ -8,16 +8,10 @@ use Rattle.writers.proofs.Operands.{after-head}
 use Rattle.writers.proofs.put_entry.Statement.{statement}
 use Rattle.writers.proofs.put_entry.Tie as tie
 
-put-head-requires : tie.Need-put-head-requires
-put-head-requires c κs = search needs
-
 put-six-commitments-requires : tie.Need-put-six-commitments-requires
 put-six-commitments-requires c κs =
     let pre = c .before .before .before .before .before .before .before .pre in
     (pre .0, (pre .1 .0, omega (arith, after-head _ _ _ (c .before .before .before .put-head .ensures))))
-
-same-length : tie.Need-same-length
-same-length c = search needs
 
 returns : tie.Need-returns
 unfolding entryCommand
@@ -25,4 +19,4 @@ returns c = go-on (c .before .before .before .before .before .before .put-head .
 
 pub put-entry-spec : {M : Type 1} → statement M
 put-entry-spec =
-    tie.close (tie.spec put-head-requires put-six-commitments-requires same-length returns)
+    tie.close (tie.spec (λ c κs. search needs) put-six-commitments-requires (λ c. search needs) returns)

@@ -9,28 +9,16 @@ use Rattle.writers.proofs.Operands.{coded}
 use Rattle.writers.proofs.put_first.Statement.{statement}
 use Rattle.writers.proofs.put_first.Tie as tie
 
-put1-requires : tie.Need-put1-requires
-put1-requires c κs = search needs
-
 put4-requires : tie.Need-put4-requires
 put4-requires c κs = omega (arith, length-bytes 1 1)
 
-cast-put2 : tie.Need-cast-put2
-cast-put2 c = search needs
-
 put2-requires : tie.Need-put2-requires
 put2-requires c κs = omega (arith, length-bytes 1 1, length-bytes 4 (c .before .before .before .before .before .before .before .before .before .before .before .args .p .modulus))
-
-cast-put1 : tie.Need-cast-put1
-cast-put1 c = search needs
 
 put1-requires-2 : tie.Need-put1-requires-2
 put1-requires-2 c κs =
     let p = c .before .before .before .before .before .before .before .before .before .before .before .before .before .before .before .before .args .p in
     omega (arith, length-bytes 1 1, length-bytes 4 (p .modulus), length-bytes 2 (p .ballots))
-
-same-length : tie.Need-same-length
-same-length c = search needs
 
 returns : tie.Need-returns
 unfolding firstCommand
@@ -43,11 +31,11 @@ pub put-first-spec : {M : Type 1} → statement M
 put-first-spec =
     tie.close
     (tie.spec
-    put1-requires
+    (λ c κs. search needs)
     put4-requires
-    cast-put2
+    (λ c. search needs)
     put2-requires
-    cast-put1
+    (λ c. search needs)
     put1-requires-2
-    same-length
+    (λ c. search needs)
     returns)

@@ -8,17 +8,11 @@ use Rattle.writers.proofs.Operands.{coded}
 use Rattle.writers.proofs.put_first_dice.Statement.{statement}
 use Rattle.writers.proofs.put_first_dice.Tie as tie
 
-put1-requires : tie.Need-put1-requires
-put1-requires c κs = search needs
-
 copy-requires : tie.Need-copy-requires
 copy-requires c κs = omega (arith, length-bytes 1 4)
 
 put4-requires : tie.Need-put4-requires
 put4-requires c κs = omega (arith, length-bytes 1 4)
-
-same-length : tie.Need-same-length
-same-length c = search needs
 
 returns : tie.Need-returns
 unfolding firstDiceCommand
@@ -26,4 +20,4 @@ returns c = go-on (coded 4 (omega arith) (c .before .before .before .before .bef
 
 pub put-first-dice-spec : {M : Type 1} → statement M
 put-first-dice-spec =
-    tie.close (tie.spec put1-requires copy-requires put4-requires same-length returns)
+    tie.close (tie.spec (λ c κs. search needs) copy-requires put4-requires (λ c. search needs) returns)

@@ -7,16 +7,10 @@ use Rattle.writers.proofs.Operands.{after-head}
 use Rattle.writers.proofs.put_full.Statement.{statement}
 use Rattle.writers.proofs.put_full.Tie as tie
 
-put-head-requires : tie.Need-put-head-requires
-put-head-requires c κs = search needs
-
 put-six-openings-requires : tie.Need-put-six-openings-requires
 put-six-openings-requires c κs =
     let pre = c .before .before .before .before .before .before .before .pre in
     (pre .0, (pre .1 .0, omega (arith, after-head _ _ _ (c .before .before .before .put-head .ensures))))
-
-same-length : tie.Need-same-length
-same-length c = search needs
 
 returns : tie.Need-returns
 unfolding fullCommand
@@ -24,4 +18,4 @@ returns c = go-on (c .before .before .before .before .before .before .put-head .
 
 pub put-full-spec : {M : Type 1} → statement M
 put-full-spec =
-    tie.close (tie.spec put-head-requires put-six-openings-requires same-length returns)
+    tie.close (tie.spec (λ c κs. search needs) put-six-openings-requires (λ c. search needs) returns)

@@ -8,17 +8,11 @@ use Rattle.writers.proofs.Operands.{after-head}
 use Rattle.writers.proofs.put_link.Statement.{statement}
 use Rattle.writers.proofs.put_link.Tie as tie
 
-put-head-requires : tie.Need-put-head-requires
-put-head-requires c κs = search needs
-
 put2-requires : tie.Need-put2-requires
 put2-requires c κs = omega (arith, after-head _ _ _ (c .before .before .before .put-head .ensures))
 
 put4-requires : tie.Need-put4-requires
 put4-requires c κs = omega (arith, after-head _ _ _ (c .before .before .before .before .before .before .before .put-head .ensures), length-bytes 2 (c .before .before .before .before .before .before .before .before .before .before .args .position))
-
-same-length : tie.Need-same-length
-same-length c = search needs
 
 returns : tie.Need-returns
 unfolding linkCommand
@@ -26,4 +20,4 @@ returns c = go-on (go-on (c .before .before .before .before .before .before .bef
 
 pub put-link-spec : {M : Type 1} → statement M
 put-link-spec =
-    tie.close (tie.spec put-head-requires put2-requires put4-requires same-length returns)
+    tie.close (tie.spec (λ c κs. search needs) put2-requires put4-requires (λ c. search needs) returns)

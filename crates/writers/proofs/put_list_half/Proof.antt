@@ -7,16 +7,10 @@ use Rattle.writers.proofs.Operands.{after-head}
 use Rattle.writers.proofs.put_list_half.Statement.{statement}
 use Rattle.writers.proofs.put_list_half.Tie as tie
 
-put-head-requires : tie.Need-put-head-requires
-put-head-requires c κs = search needs
-
 put-three-openings-requires : tie.Need-put-three-openings-requires
 put-three-openings-requires c κs =
     let pre = c .before .before .before .before .before .before .before .pre in
     (pre .0, (pre .1 .0, (pre .1 .1 .0, omega (arith, after-head _ _ _ (c .before .before .before .put-head .ensures)))))
-
-same-length : tie.Need-same-length
-same-length c = search needs
 
 returns : tie.Need-returns
 unfolding listHalfCommand
@@ -24,4 +18,4 @@ returns c = go-on (c .before .before .before .before .before .before .put-head .
 
 pub put-list-half-spec : {M : Type 1} → statement M
 put-list-half-spec =
-    tie.close (tie.spec put-head-requires put-three-openings-requires same-length returns)
+    tie.close (tie.spec (λ c κs. search needs) put-three-openings-requires (λ c. search needs) returns)

@@ -32,9 +32,6 @@ mul-start c = omega (arith, c .before .before .before .before .pre .1 .1 .1 (c .
 add-end : tie.Need-add-end Inv-loop μ-loop
 add-end c = omega (arith, c .before .before .before .before .pre .1 .1 .1 (c .before .loop .k) (omega arith))
 
-sub-put-opening : tie.Need-sub-put-opening Inv-loop μ-loop
-sub-put-opening c = omega arith
-
 part-put-opening-start : tie.Need-part-put-opening-start Inv-loop μ-loop
 part-put-opening-start c = omega (arith, c .before .before .before .before .before .pre .1 .1 .1 (c .before .before .loop .k) (omega arith))
 
@@ -57,12 +54,6 @@ put-opening-requires c κs =
           (pre .1 .1 .0) (omega arith),
     )
 
-add-k : tie.Need-add-k Inv-loop μ-loop
-add-k c = omega arith
-
-loop-less : tie.Need-loop-less Inv-loop μ-loop
-loop-less c = omega arith
-
 loop-again : tie.Need-loop-again Inv-loop μ-loop
 loop-again c =
     let g = c .before .before .before .before .before .before .before in
@@ -73,9 +64,6 @@ loop-again c =
       go-turn (λ k. slotOpening (args .s) keys (args .step * k + args .from)) k (g .loop .inv .1)
           (go-same (c .before .before .put-opening .ensures) (slot-opening (args .s) keys (args .step * k + args .from) (c .before .before .before .slot .ensures .0))),
     )
-
-same-length : tie.Need-same-length Inv-loop μ-loop
-same-length c = omega arith
 
 returns : tie.Need-returns Inv-loop μ-loop
 returns c =
@@ -93,13 +81,13 @@ put-openings-spec =
     add-q
     mul-start
     add-end
-    sub-put-opening
+    (λ c. omega arith)
     part-put-opening-start
     part-put-opening-end
     slot-requires
     put-opening-requires
-    add-k
-    loop-less
+    (λ c. omega arith)
+    (λ c. omega arith)
     loop-again
-    same-length
+    (λ c. omega arith)
     returns)

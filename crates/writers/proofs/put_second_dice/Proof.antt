@@ -7,18 +7,12 @@ use Rattle.writers.proofs.Operands.{coded}
 use Rattle.writers.proofs.put_second_dice.Statement.{statement}
 use Rattle.writers.proofs.put_second_dice.Tie as tie
 
-put1-requires : tie.Need-put1-requires
-put1-requires c κs = search needs
-
 copy-requires : tie.Need-copy-requires
 copy-requires c κs = omega (arith, length-bytes 1 6)
-
-same-length : tie.Need-same-length
-same-length c = search needs
 
 returns : tie.Need-returns
 unfolding secondDiceCommand
 returns c = coded 6 (omega arith) (c .before .before .before .before .before .before .put1 .ensures) (c .before .before .copy .ensures)
 
 pub put-second-dice-spec : {M : Type 1} → statement M
-put-second-dice-spec = tie.close (tie.spec put1-requires copy-requires same-length returns)
+put-second-dice-spec = tie.close (tie.spec (λ c κs. search needs) copy-requires (λ c. search needs) returns)

@@ -22,21 +22,6 @@ abbrev μ-loop : tie.MeasureT-loop
 loop-holds : tie.Need-loop-holds Inv-loop μ-loop
 loop-holds c = (omega arith, λ place. start _ _ (omega arith))
 
-mul-from : tie.Need-mul-from Inv-loop μ-loop
-mul-from c = omega arith
-
-add-to : tie.Need-add-to Inv-loop μ-loop
-add-to c = omega arith
-
-sub-put-commitment : tie.Need-sub-put-commitment Inv-loop μ-loop
-sub-put-commitment c = omega arith
-
-part-put-commitment-start : tie.Need-part-put-commitment-start Inv-loop μ-loop
-part-put-commitment-start c = omega arith
-
-part-put-commitment-end : tie.Need-part-put-commitment-end Inv-loop μ-loop
-part-put-commitment-end c = omega arith
-
 slot-requires : tie.Need-slot-requires Inv-loop μ-loop
 slot-requires c κs = (c .before .before .before .before .before .before .pre .0, omega arith)
 
@@ -48,12 +33,6 @@ put-commitment-requires c κs =
       search needs,
       room-even (λ q. commitment (inBallot 0 q) (slotOpening (c .before .before .before .before .before .before .before .args .s) keys q)) 32 q 6 (λ i l. length-commitment _ _) (g .loop .inv .1 (inBallot 0)) (omega arith) (omega arith),
     )
-
-add-q : tie.Need-add-q Inv-loop μ-loop
-add-q c = omega arith
-
-loop-less : tie.Need-loop-less Inv-loop μ-loop
-loop-less c = omega arith
 
 loop-again : tie.Need-loop-again Inv-loop μ-loop
 loop-again c =
@@ -83,15 +62,15 @@ put-six-commitments-spec =
     Inv-loop
     μ-loop
     loop-holds
-    mul-from
-    add-to
-    sub-put-commitment
-    part-put-commitment-start
-    part-put-commitment-end
+    (λ c. omega arith)
+    (λ c. omega arith)
+    (λ c. omega arith)
+    (λ c. omega arith)
+    (λ c. omega arith)
     slot-requires
     put-commitment-requires
-    add-q
-    loop-less
+    (λ c. omega arith)
+    (λ c. omega arith)
     loop-again
     same-length
     returns)

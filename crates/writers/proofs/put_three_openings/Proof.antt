@@ -9,11 +9,8 @@ put-openings-requires c κs =
     let pre = c .before .before .before .pre in
     (pre .0, (pre .1 .1 .0, (pre .1 .1 .1, λ k l. omega (arith, pre .1 .0))))
 
-same-length : tie.Need-same-length
-same-length c = search needs
-
 returns : tie.Need-returns
 returns c = c .before .before .put-openings .ensures
 
 pub put-three-openings-spec : {M : Type 1} → statement M
-put-three-openings-spec = tie.close (tie.spec put-openings-requires same-length returns)
+put-three-openings-spec = tie.close (tie.spec put-openings-requires (λ c. search needs) returns)

@@ -8,21 +8,15 @@ use Rattle.writers.proofs.Operands.{coded}
 use Rattle.writers.proofs.put_vote.Statement.{statement}
 use Rattle.writers.proofs.put_vote.Tie as tie
 
-put1-requires : tie.Need-put1-requires
-put1-requires c κs = search needs
-
 put2-requires : tie.Need-put2-requires
 put2-requires c κs = omega (arith, length-bytes 1 9)
 
 put4-requires : tie.Need-put4-requires
 put4-requires c κs = omega (arith, length-bytes 1 9, length-bytes 2 (c .before .before .before .before .before .before .before .before .before .before .args .i))
 
-same-length : tie.Need-same-length
-same-length c = search needs
-
 returns : tie.Need-returns
 unfolding voteCommand
 returns c = go-on (coded 9 (omega arith) (c .before .before .before .before .before .before .before .before .before .before .put1 .ensures) (c .before .before .before .before .before .before .put2 .ensures)) (c .before .before .put4 .ensures)
 
 pub put-vote-spec : {M : Type 1} → statement M
-put-vote-spec = tie.close (tie.spec put1-requires put2-requires put4-requires same-length returns)
+put-vote-spec = tie.close (tie.spec (λ c κs. search needs) put2-requires put4-requires (λ c. search needs) returns)

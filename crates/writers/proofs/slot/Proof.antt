@@ -8,21 +8,9 @@ use Rattle.writers.specs.Splits.{slotNumber}
 use Rattle.writers.proofs.slot.Statement.{statement}
 use Rattle.writers.proofs.slot.Tie as tie
 
-mul-first : tie.Need-mul-first
-mul-first c = search needs
-
-element-copy-out-first : tie.Need-element-copy-out-first
-element-copy-out-first c = search needs
-
 returns : tie.Need-returns
 unfolding slotNumber tablet.slot
 returns c = (sym (choose-clear _ _ _ (omega arith)), c .before .before .pre .0 .firsts _ (omega arith))
-
-mul-minus : tie.Need-mul-minus
-mul-minus c = search needs
-
-element-copy-out-minus : tie.Need-element-copy-out-minus
-element-copy-out-minus c = search needs
 
 minus-requires : tie.Need-minus-requires
 minus-requires c κs = (c .before .before .before .pre .0 .values _ (omega arith), c .before .before .before .pre .0 .firsts _ (omega arith))
@@ -35,10 +23,10 @@ pub slot-spec : {M : Type 1} → statement M
 slot-spec =
     tie.close
     (tie.spec
-    mul-first
-    element-copy-out-first
+    (λ c. search needs)
+    (λ c. search needs)
     returns
-    mul-minus
-    element-copy-out-minus
+    (λ c. search needs)
+    (λ c. search needs)
     minus-requires
     returns-2)
