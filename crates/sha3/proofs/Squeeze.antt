@@ -1,15 +1,16 @@
--- Laws of squeezing: the length of what comes out, and the loop that writes them. Assumes nothing.
-use mathlib.Core.Path.{_≡_, refl, sym, ap, _∙_}
-use mathlib.Core.List.{List, [], _∷_, _++_, append-assoc, append-nil}
-use Prim.Native.Nat.{ℕ, zero, suc, _+_, _*_, _/_, _%_, _^_, _<_}
+-- Laws of squeezing: the length of what comes out, and the loops that write it. Assumes nothing.
+use mathlib.Core.Path.{_≡_, refl, ap, ap₂, _∙_}
+use mathlib.Core.List.{List, [], _∷_, _++_}
+use Prim.Native.Nat.{ℕ, zero, suc, _+_, _*_, _/_, _%_, _^_, _≤_, _<_}
 use native.Mathlib.Nat.{add-zero, add-suc}
 use native.Mathlib.Numerals.{add-one}
 use native.Mathlib.Omega.{arith}
-use lib.ListN.{length, getD, set, take, drop, length-append}
-use lib.Seq.{drop-cons, drop-length, set-at, take-all, take-append-le}
+use lib.ListN.{length, set, take, length-append, length-set}
+use lib.Seq.{take-suc-set, take-all, take-append-le}
 use lib.Bits.{bitAnd, and-mask}
 use Rattle.keccak.specs.Keccak.{at}
 use Rattle.sha3.specs.Sha3.{byteAt, squeeze}
+use Rattle.sha3.specs.Word.{putLane}
 
 pub length-squeeze : (l : List ℕ) (n : ℕ) → length (squeeze l n) ≡ n
 unfolding squeeze
@@ -26,16 +27,34 @@ take-squeeze l d (suc k) =
     ∙ take-append-le d (squeeze l (d + k)) (byteAt l (d + k) ∷ []) (omega (arith, length-squeeze l (d + k)))
     ∙ take-squeeze l d k
 
-pub squeeze-more : (l out : List ℕ) (i : ℕ) → i < length out → set (squeeze l i ++ drop i out) i (byteAt l i) ≡ squeeze l (i + 1) ++ drop (i + 1) out
+-- a byte is written
+pub byte-more : (l out : List ℕ) (i : ℕ) → i < length out → take i out ≡ squeeze l i → take (i + 1) (set out i (byteAt l i)) ≡ squeeze l (i + 1)
 unfolding squeeze
-squeeze-more l out i h =
-    ap (λ (d : List ℕ). set (squeeze l i ++ d) i (byteAt l i)) (drop-cons out i 0 h)
-    ∙ set-at (squeeze l i) (getD out i 0) (drop (suc i) out) (byteAt l i) i (length-squeeze l i)
-    ∙ sym (append-assoc (squeeze l i) (byteAt l i ∷ []) (drop (suc i) out))
-    ∙ ap (λ (n : ℕ). squeeze l n ++ drop n out) (sym (add-one i))
+byte-more l out i h e = rw add-one (take-suc-set out i (byteAt l i) h ∙ ap (λ (x : List ℕ). x ++ (byteAt l i ∷ [])) e)
 
-pub squeeze-all : (l out : List ℕ) → squeeze l (length out) ++ drop (length out) out ≡ squeeze l (length out)
-squeeze-all l out = ap (λ (d : List ℕ). squeeze l (length out) ++ d) (drop-length out) ∙ append-nil (squeeze l (length out))
+pub length-putLane : (out : List ℕ) (i x n : ℕ) → length (putLane out i x n) ≡ length out
+unfolding putLane
+length-putLane out i x zero = refl
+length-putLane out i x (suc n) = length-set (putLane out i x n) (i + n) (x / 2 ^ (n * 8) % 256) ∙ length-putLane out i x n
+
+-- a byte of a lane is one of the state
+lane-byte : (l : List ℕ) (k n : ℕ) → n < 8 → at l k / 2 ^ (n * 8) % 256 ≡ byteAt l (8 * k + n)
+unfolding byteAt
+lane-byte l k n h =
+    let d : k ≡ (8 * k + n) / 8 = omega arith in
+    let r : n ≡ (8 * k + n) % 8 = omega arith in
+    ap₂ (λ (x y : ℕ). at l x / 2 ^ (y * 8) % 256) d r
+
+-- bytes of a lane are written
+pub lane-more : (l out : List ℕ) (k n : ℕ) → n ≤ 8 → 8 * k + n ≤ length out → take (8 * k) out ≡ squeeze l (8 * k) →
+    take (8 * k + n) (putLane out (8 * k) (at l k) n) ≡ squeeze l (8 * k + n)
+unfolding putLane
+lane-more l out k zero h f e = rw add-zero e
+lane-more l out k (suc n) h f e =
+    let s : 8 * k + suc n ≡ 8 * k + n + 1 = omega arith in
+    rw (s, lane-byte l k n (omega arith))
+    (byte-more l (putLane out (8 * k) (at l k) n) (8 * k + n) (omega (arith, length-putLane out (8 * k) (at l k) n))
+    (lane-more l out k n (omega arith) (omega arith) e))
 
 -- the byte as the machine computes it
 pub byte-is : (l : List ℕ) (i : ℕ) → bitAnd (at l (i / 8) / 2 ^ (i % 8 * 8)) 255 ≡ byteAt l i

@@ -1,7 +1,8 @@
--- Eight bytes of a message as the code adds them to a lane.
+-- Eight bytes at once: those of a message as the code adds them to a lane, and those of a lane as it writes them.
 use mathlib.Core.List.{List}
-use Prim.Native.Nat.{ℕ, _+_, _*_, _^_}
+use Prim.Native.Nat.{ℕ, zero, suc, _+_, _*_, _/_, _%_, _^_}
 use lib.Bits.{bitXor}
+use lib.ListN.{set}
 use Rattle.keccak.specs.Keccak.{at}
 
 -- the number that the eight bytes from i on make, the lowest first
@@ -16,3 +17,8 @@ wordAt p i =
     (at p (i + 5) * 2 ^ 40))
     (at p (i + 6) * 2 ^ 48))
     (at p (i + 7) * 2 ^ 56)
+
+-- a list with the first n bytes of a lane, the lowest first, from i on
+unfoldable pub putLane : List ℕ → ℕ → ℕ → ℕ → List ℕ
+putLane out i lane zero = out
+putLane out i lane (suc n) = set (putLane out i lane n) (i + n) (lane / 2 ^ (n * 8) % 256)

@@ -2,9 +2,9 @@
 ghost use mathlib.Core.Path.{_≡_};
 ghost use mathlib.Core.List.{_++_};
 ghost use Prim.Native.Nat.{_+_, _≤_, _<_};
-ghost use lib.ListN.{length};
+ghost use lib.ListN.{length, take};
 ghost use Rattle.sha3.specs.Sha3.{Rate, xorByte, absorbBytes, empty, padded, squeeze, digest, sha3-224, sha3-256};
-ghost use Rattle.sha3.specs.Word.{wordAt};
+ghost use Rattle.sha3.specs.Word.{wordAt, putLane};
 
 // A sponge: the state, and how many bytes of the block at hand were added to it.
 pub struct Sponge {
@@ -66,6 +66,38 @@ pub fn absorb(s: Sponge, rate: usize, p: &[u8]) -> Sponge
     Sponge { lanes: l, fill }
 }
 
+// The eight bytes of a lane, the lowest first, go to `out` from `at` on.
+fn put_lane(out: &mut [u8], at: usize, lane: u64)
+    requires { ⌜ at + 8 ≤ length (now out) ⌝ }
+    ensures { λ _. ⌜ now (out .exit) ≡ putLane (now (out .entry)) at lane 8 ⌝ }
+{
+    for j in 0..8 {
+        out[at + j] = ((lane >> (j * 8)) & 255) as u8;
+    }
+}
+
+// The bytes of the state from `from` on go to `out`, which has those before them.
+fn put_rest(v: &[u64; 25], from: usize, out: &mut [u8])
+    requires { ⌜ (length (now out) ≤ 200) × ((from ≤ length (now out)) × (take from (now out) ≡ squeeze (now v) from)) ⌝ }
+    ensures { λ _. ⌜ now (out .exit) ≡ squeeze (now (v .entry)) (length (now (out .entry))) ⌝ }
+{
+    for i in from..out.len() {
+        out[i] = ((v[i / 8] >> (i % 8 * 8)) & 255) as u8;
+    }
+}
+
+// The first bytes of the state, as many as `out` has: whole lanes, and then the bytes of a last one that is cut.
+fn squeeze_into(v: &[u64; 25], out: &mut [u8])
+    requires { ⌜ length (now out) ≤ 200 ⌝ }
+    ensures { λ _. ⌜ now (out .exit) ≡ squeeze (now (v .entry)) (length (now (out .entry))) ⌝ }
+{
+    let whole = out.len() / 8;
+    for k in 0..whole {
+        put_lane(out, 8 * k, v[k]);
+    }
+    put_rest(v, 8 * whole, out);
+}
+
 // The end of the message: suffix, pad and digest, which is as long as `out`.
 pub fn finish(s: Sponge, rate: usize, out: &mut [u8])
     requires { ⌜ Rate rate × ((s .fill < rate) × (length (now out) ≤ rate)) ⌝ }
@@ -76,9 +108,7 @@ pub fn finish(s: Sponge, rate: usize, out: &mut [u8])
     xor_byte(&mut l, fill, 6);
     xor_byte(&mut l, rate - 1, 128);
     let v = keccak::permute(l);
-    for i in 0..out.len() {
-        out[i] = ((v[i / 8] >> (i % 8 * 8)) & 255) as u8;
-    }
+    squeeze_into(&v, out);
 }
 
 // The sponge before a message.
