@@ -14,7 +14,7 @@ use lib.Dec.{T, ltb, lit<, ltb→lt}
 use lib.Pow.{pow-pos, shl-shr, shr-lt, shr-le, mod-pow-add, high, low, ones-split, ones-lt, ones-sub-lt, le-ones, pow-add}
 use lib.Bits.{bitAnd, bitOr, bitXor, and-comm, and-mask, and-lt, or-lt, xor-lt, xor-comm, or-add-and, xor-add-and, xor-mod, xor-shr, xor-block, or-shifted, or-self}
 use Rattle.keccak.specs.Keccak.{at, rotl, not64, lanes, theta, rho, pi, chi, iota, round, rounds, column, rotationOffsets, roundConstants, keccakF}
-use Rattle.keccak.specs.Rows.{Words, numbers, columnOf, sideOf, turnedOf, gatherOf, chi0Of, chi1Of, chi2Of, chi3Of, chi4Of, roundOf, flipOf, standard, rowAt, flat, sides, gathered, codeRound, flipped}
+use Rattle.keccak.specs.Rows.{Words, numbers, columnOf, sideOf, turnedOf, gatherOf, chi0Of, chi1Of, chi2Of, chi3Of, chi4Of, roundOf, flipOf, standard, rowAt, flat, sides, summed, gathered, codeRound, flipped}
 use Rattle.keccak.proofs.Complement.{Laws, complement, twice}
 use Rattle.keccak.proofs.Xor.{xor-assoc}
 
@@ -224,9 +224,16 @@ four f i =
 
 -- ---- a round, row by row
 
--- five equal arguments
-pub equal-five : (f : ℕ → ℕ → ℕ → ℕ → ℕ → List ℕ) {a b c d e a′ b′ c′ d′ e′ : ℕ} → a ≡ a′ → b ≡ b′ → c ≡ c′ → d ≡ d′ → e ≡ e′ → f a b c d e ≡ f a′ b′ c′ d′ e′
-equal-five f p q r s t = cc
+-- a row, from its lanes as they are gathered and as they are turned
+pub row-is : (p q r s t d : List ℕ) (j : ℕ) (f : ℕ → ℕ → ℕ → ℕ → ℕ → List ℕ) {g : List ℕ} {b0 b1 b2 b3 b4 : ℕ} → g ≡ summed p q r s t d j →
+    b0 ≡ rotl (at g 0) (at rotationOffsets (5 * 0 + j % 5)) →
+    b1 ≡ rotl (at g 1) (at rotationOffsets (5 * 1 + (j + 1) % 5)) →
+    b2 ≡ rotl (at g 2) (at rotationOffsets (5 * 2 + (j + 2) % 5)) →
+    b3 ≡ rotl (at g 3) (at rotationOffsets (5 * 3 + (j + 3) % 5)) →
+    b4 ≡ rotl (at g 4) (at rotationOffsets (5 * 4 + (j + 4) % 5)) →
+    f b0 b1 b2 b3 b4 ≡ gathered p q r s t d j f
+unfolding summed gathered gatherOf turnedOf
+row-is p q r s t d j f e e0 e1 e2 e3 e4 = rw (e0, e1, e2, e3, e4, e)
 
 pub by-rows : (c : ℕ) (p q r s t : List ℕ) {d p′ q′ r′ s′ t′ : List ℕ} → d ≡ sides p q r s t →
     p′ ≡ gathered p q r s t d 0 (chi0Of numbers c) →

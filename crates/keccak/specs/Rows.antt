@@ -101,6 +101,11 @@ flat p q r s t =
 unfoldable pub sides : List ℕ → List ℕ → List ℕ → List ℕ → List ℕ → List ℕ
 sides p q r s t = let d : ℕ → ℕ = sideOf numbers (at (flat p q r s t)) in d 0 ∷ d 1 ∷ d 2 ∷ d 3 ∷ d 4 ∷ []
 
+-- the five lanes that pi brings into one row, after theta
+unfoldable pub summed : List ℕ → List ℕ → List ℕ → List ℕ → List ℕ → List ℕ → ℕ → List ℕ
+summed p q r s t d j =
+    bitXor (at p (j % 5)) (at d (j % 5)) ∷ bitXor (at q ((j + 1) % 5)) (at d ((j + 1) % 5)) ∷ bitXor (at r ((j + 2) % 5)) (at d ((j + 2) % 5)) ∷ bitXor (at s ((j + 3) % 5)) (at d ((j + 3) % 5)) ∷ bitXor (at t ((j + 4) % 5)) (at d ((j + 4) % 5)) ∷ []
+
 -- a row of the round, f being its chi
 unfoldable pub gathered : List ℕ → List ℕ → List ℕ → List ℕ → List ℕ → List ℕ → ℕ → (ℕ → ℕ → ℕ → ℕ → ℕ → List ℕ) → List ℕ
 gathered p q r s t d j f = gatherOf numbers (at p) (at q) (at r) (at s) (at t) (at d) j f

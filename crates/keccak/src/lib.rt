@@ -3,10 +3,10 @@
 // Between the rounds six lanes are kept complemented, which saves most of the complements that chi asks for. The rounds work on five
 // rows of five lanes, and four rounds are written out: the compiler then keeps the lanes in registers and moves few of them.
 ghost use mathlib.Core.Path.{_≡_};
-ghost use Prim.Native.Nat.{_<_, _≤_};
+ghost use Prim.Native.Nat.{_+_, _*_, _<_, _≤_};
 ghost use lib.Bits.{bitXor};
-ghost use Rattle.keccak.specs.Keccak.{at, rotl, keccakF};
-ghost use Rattle.keccak.specs.Rows.{numbers, rowAt, flat, sides, turnedOf, gathered, chi0Of, chi1Of, chi2Of, chi3Of, chi4Of, codeRound, flipped};
+ghost use Rattle.keccak.specs.Keccak.{at, rotl, rotationOffsets, keccakF};
+ghost use Rattle.keccak.specs.Rows.{numbers, rowAt, flat, sides, summed, gathered, chi0Of, chi1Of, chi2Of, chi3Of, chi4Of, codeRound, flipped};
 
 const ROUND_CONSTANTS: [u64; 24] = [
     0x0000000000000001,
@@ -97,12 +97,34 @@ fn mix(p: [u64; 5], q: [u64; 5], r: [u64; 5], s: [u64; 5], t: [u64; 5]) -> [u64;
     ]
 }
 
-// Lane x of the row y after theta and rho, where theta adds d.
-fn turned(row: [u64; 5], d: [u64; 5], y: usize, x: usize) -> u64
-    requires { ⌜ (y < 5) × (x < 5) ⌝ }
-    ensures { λ r. ⌜ r ≡ turnedOf numbers (at row) (at d) y x ⌝ }
+// The five lanes that pi brings into one row, after theta: from row y that of column y + j, modulo 5. Theta adds d.
+fn gather(
+    p: [u64; 5],
+    q: [u64; 5],
+    r: [u64; 5],
+    s: [u64; 5],
+    t: [u64; 5],
+    d: [u64; 5],
+    j: usize,
+) -> [u64; 5]
+    requires { ⌜ j < 5 ⌝ }
+    ensures { λ g. ⌜ g ≡ summed p q r s t d j ⌝ }
 {
-    turn(row[x] ^ d[x], ROTATION_OFFSETS[5 * y + x])
+    [
+        p[j % 5] ^ d[j % 5],
+        q[(j + 1) % 5] ^ d[(j + 1) % 5],
+        r[(j + 2) % 5] ^ d[(j + 2) % 5],
+        s[(j + 3) % 5] ^ d[(j + 3) % 5],
+        t[(j + 4) % 5] ^ d[(j + 4) % 5],
+    ]
+}
+
+// The gathered lane from row y and column x, after rho.
+fn turned(g: [u64; 5], y: usize, x: usize) -> u64
+    requires { ⌜ (y < 5) × (x < 5) ⌝ }
+    ensures { λ r. ⌜ r ≡ rotl (at g y) (at rotationOffsets (5 * y + x)) ⌝ }
+{
+    turn(g[y], ROTATION_OFFSETS[5 * y + x])
 }
 
 // The rows of a round: chi on the five lanes that pi brings into the row, with a complement only where the lanes that are kept
@@ -118,11 +140,12 @@ fn row0(
 ) -> [u64; 5]
     ensures { λ e. ⌜ e ≡ gathered p q r s t d 0 (chi0Of numbers c) ⌝ }
 {
-    let b0 = turned(p, d, 0, 0);
-    let b1 = turned(q, d, 1, 1);
-    let b2 = turned(r, d, 2, 2);
-    let b3 = turned(s, d, 3, 3);
-    let b4 = turned(t, d, 4, 4);
+    let g = gather(p, q, r, s, t, d, 0);
+    let b0 = turned(g, 0, 0);
+    let b1 = turned(g, 1, 1);
+    let b2 = turned(g, 2, 2);
+    let b3 = turned(g, 3, 3);
+    let b4 = turned(g, 4, 4);
     [
         b0 ^ (b1 | b2) ^ c,
         b1 ^ (!b2 | b3),
@@ -135,11 +158,12 @@ fn row0(
 fn row1(p: [u64; 5], q: [u64; 5], r: [u64; 5], s: [u64; 5], t: [u64; 5], d: [u64; 5]) -> [u64; 5]
     ensures { λ e. ⌜ e ≡ gathered p q r s t d 3 (chi1Of numbers) ⌝ }
 {
-    let b0 = turned(p, d, 0, 3);
-    let b1 = turned(q, d, 1, 4);
-    let b2 = turned(r, d, 2, 0);
-    let b3 = turned(s, d, 3, 1);
-    let b4 = turned(t, d, 4, 2);
+    let g = gather(p, q, r, s, t, d, 3);
+    let b0 = turned(g, 0, 3);
+    let b1 = turned(g, 1, 4);
+    let b2 = turned(g, 2, 0);
+    let b3 = turned(g, 3, 1);
+    let b4 = turned(g, 4, 2);
     [
         b0 ^ (b1 | b2),
         b1 ^ (b2 & b3),
@@ -152,11 +176,12 @@ fn row1(p: [u64; 5], q: [u64; 5], r: [u64; 5], s: [u64; 5], t: [u64; 5], d: [u64
 fn row2(p: [u64; 5], q: [u64; 5], r: [u64; 5], s: [u64; 5], t: [u64; 5], d: [u64; 5]) -> [u64; 5]
     ensures { λ e. ⌜ e ≡ gathered p q r s t d 1 (chi2Of numbers) ⌝ }
 {
-    let b0 = turned(p, d, 0, 1);
-    let b1 = turned(q, d, 1, 2);
-    let b2 = turned(r, d, 2, 3);
-    let b3 = turned(s, d, 3, 4);
-    let b4 = turned(t, d, 4, 0);
+    let g = gather(p, q, r, s, t, d, 1);
+    let b0 = turned(g, 0, 1);
+    let b1 = turned(g, 1, 2);
+    let b2 = turned(g, 2, 3);
+    let b3 = turned(g, 3, 4);
+    let b4 = turned(g, 4, 0);
     [
         b0 ^ (b1 | b2),
         b1 ^ (b2 & b3),
@@ -169,11 +194,12 @@ fn row2(p: [u64; 5], q: [u64; 5], r: [u64; 5], s: [u64; 5], t: [u64; 5], d: [u64
 fn row3(p: [u64; 5], q: [u64; 5], r: [u64; 5], s: [u64; 5], t: [u64; 5], d: [u64; 5]) -> [u64; 5]
     ensures { λ e. ⌜ e ≡ gathered p q r s t d 4 (chi3Of numbers) ⌝ }
 {
-    let b0 = turned(p, d, 0, 4);
-    let b1 = turned(q, d, 1, 0);
-    let b2 = turned(r, d, 2, 1);
-    let b3 = turned(s, d, 3, 2);
-    let b4 = turned(t, d, 4, 3);
+    let g = gather(p, q, r, s, t, d, 4);
+    let b0 = turned(g, 0, 4);
+    let b1 = turned(g, 1, 0);
+    let b2 = turned(g, 2, 1);
+    let b3 = turned(g, 3, 2);
+    let b4 = turned(g, 4, 3);
     [
         b0 ^ (b1 & b2),
         b1 ^ (b2 | b3),
@@ -186,11 +212,12 @@ fn row3(p: [u64; 5], q: [u64; 5], r: [u64; 5], s: [u64; 5], t: [u64; 5], d: [u64
 fn row4(p: [u64; 5], q: [u64; 5], r: [u64; 5], s: [u64; 5], t: [u64; 5], d: [u64; 5]) -> [u64; 5]
     ensures { λ e. ⌜ e ≡ gathered p q r s t d 2 (chi4Of numbers) ⌝ }
 {
-    let b0 = turned(p, d, 0, 2);
-    let b1 = turned(q, d, 1, 3);
-    let b2 = turned(r, d, 2, 4);
-    let b3 = turned(s, d, 3, 0);
-    let b4 = turned(t, d, 4, 1);
+    let g = gather(p, q, r, s, t, d, 2);
+    let b0 = turned(g, 0, 2);
+    let b1 = turned(g, 1, 3);
+    let b2 = turned(g, 2, 4);
+    let b3 = turned(g, 3, 0);
+    let b4 = turned(g, 4, 1);
     [
         b0 ^ (!b1 & b2),
         !b1 ^ (b2 | b3),

@@ -1,4 +1,5 @@
-// Sums and differences modulo m of numbers below m, by comparing and subtracting: no division, and nothing wraps.
+// Sums and differences modulo m of numbers below m, by comparing and subtracting: no division, and nothing wraps. m is the modulus here,
+// which the record calls M.
 ghost use mathlib.Core.Path.{_≡_};
 ghost use Prim.Native.Nat.{_<_};
 ghost use Rattle.laws.specs.Modular as modulo;

@@ -113,7 +113,8 @@ fn halves_agree(modulus: u32, side: u32, ballot: u32, list: u32, t: u32) -> bool
     ballot == modular::minus(modulus, list, t)
 }
 
-// 08: list and linked position, 4; the numbers, 10; the openings, 13; the two halves, 14. `rank` compared lists come before list l.
+// 08: list and linked position, 4; the numbers, 10; the openings, 13; the two halves, 14. `rank` compared lists come before list l. The commands
+// before it stand (`ListHalfReady`), so t and the ballot's numbers are below M and the side is 0 or 1.
 pub fn list_half_rules(
     p: Parameters,
     bytes: &[u8],
@@ -177,7 +178,7 @@ pub fn fill_votes(bytes: &[u8], at: usize, out: &mut [u32])
 }
 
 // Rule 16: whether the values of an opened list are the announced votes in some order. Values and votes are worked out into the two
-// lent slices, of one number a ballot.
+// lent slices, of one number a ballot. The votes are sorted, by rule 15, so it is enough to sort the values and compare.
 fn permutes_with(
     bytes: &[u8],
     at: usize,
@@ -231,6 +232,7 @@ pub fn full_rules(p: Parameters, bytes: &[u8], at: usize, l: usize, i: usize) ->
     }
     if i + 1 == p.ballots {
         let votes = layout::at_vote(p, 0);
+        // the list's first full opening stands i commands before this one
         if !list_permutes(bytes, at - 220 * i, votes, p.modulus, p.ballots) {
             return 16;
         }

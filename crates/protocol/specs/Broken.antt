@@ -75,11 +75,12 @@ pub data Broken (drawn : Bool) (p : Parameters) (r : List ℕ) : Due → ℕ →
   -- 14 "the two halves disagree"
   first-halves : (l j : ℕ) → sideOf p r j ≡ 0
       → sumOfThree (p .modulus) (ballotOpeningOf p r j) ≢ plus (p .modulus) (sumOfThree (p .modulus) (listOpeningOf p r l j)) (shiftOf p r l j) → Broken drawn p r (ListHalf l j) 14
+  -- a side that is not 0 is 1, by rule 11
   second-halves : (l j : ℕ) → sideOf p r j ≢ 0
       → sumOfThree (p .modulus) (ballotOpeningOf p r j) ≢ minus (p .modulus) (sumOfThree (p .modulus) (listOpeningOf p r l j)) (shiftOf p r l j) → Broken drawn p r (ListHalf l j) 14
   -- 15 "announced vote below its forerunner"
   falls : (i : ℕ) → voteOf p r (suc i) < voteOf p r i → Broken drawn p r (Vote (suc i)) 15
   -- 16 "opened list is no permutation of the announced votes (found at its last 0A)"
   values : (l i : ℕ) → i + 1 ≡ p .ballots
-      → (((x : ℕ) → times x (λ i. sumOfSix (p .modulus) (fullOpeningOf p r l i)) (p .ballots) ≡ times x (voteOf p r) (p .ballots)) → ⊥)
+      → (((x : ℕ) → times x (λ k. sumOfSix (p .modulus) (fullOpeningOf p r l k)) (p .ballots) ≡ times x (voteOf p r) (p .ballots)) → ⊥)
       → Broken drawn p r (FullOpening l i) 16

@@ -1,5 +1,6 @@
 -- Document 01, "What is refused": the rules of each command, in rising order. A rule reads its operands, and those of earlier
 -- commands, from the record. `rule k test rest` is k where the test fails, else what the rest says; `kept` is no rule broken (`laws` `Faults`).
+-- `every t k`: the test t holds of 0 to k - 1 (`laws` `Tests`). `p .modulus`, `p .ballots` and `p .compared` are M, n and m.
 use mathlib.Core.Bool.{Bool}
 use mathlib.Core.List.{List}
 use Prim.Native.Nat.{ℕ, zero, suc, _+_, _-_, _*_, _^_}
@@ -40,7 +41,9 @@ unfoldable pub gives : Place → List ℕ → List ℕ → Bool
 gives place o posted = same (commitment place o) posted
 
 -- rule 14, "the two halves disagree": "the ballot's three opened numbers must equal in sum: on side 0 the list's three plus t, on side 1 the list's three
--- minus t"
+-- minus t". `ballot` and `list` are the sums of the three. The sign changes because t is what the ballot's first halves have more than the list's
+-- (`linkShift` in `Servers`): its second halves have that much less, and over both sides t cancels (`both-sides` in `laws` `Modular`). No side
+-- above 1 comes here, by rule 11.
 unfoldable pub agrees : ℕ → ℕ → ℕ → ℕ → ℕ → Bool
 agrees M zero ballot list t = equal ballot (plus M list t)
 agrees M (suc side) ballot list t = equal ballot (minus M list t)

@@ -50,7 +50,7 @@ pub record Valid (b : Board) (k : Comparison) (d : Disclosure) : Type 0 where
   -- "the mask has exactly m ones and no bit at 2m or above"
   pub mask-ones : ones (k .mask) ≡ b .parameters .compared
   pub mask-bits : (i : ℕ) → lists (b .parameters) ≤ i → bit (k .mask) i ≡ 0
-  -- "One list's positions all differ."
+  -- "One list's positions all differ.", and are below n: rule 9
   pub positions : (l : ℕ) → l < lists (b .parameters) → bit (k .mask) l ≡ 1 → Perm (b .parameters .ballots) (k .position l)
   -- t below M
   pub shifts : (l j : ℕ) → l < lists (b .parameters) → bit (k .mask) l ≡ 1 → j < b .parameters .ballots → k .shift l j < b .parameters .modulus

@@ -117,7 +117,8 @@ pub fn first_dice_rules(p: Parameters, bytes: &[u8], at: usize, drawn: bool, tex
     0
 }
 
-// 05: list and ballot, 4; a position that is there and not taken, 9; t, 10. The marks tell which positions earlier links took.
+// 05: list and ballot, 4; a position that is there and not taken, 9; t, 10. The marks (`Marked` in specs/Marks.antt) tell which positions
+// earlier links took; the stage that reads the links sets them.
 pub fn link_rules(
     p: Parameters,
     bytes: &[u8],

@@ -1,15 +1,17 @@
 -- `row2` computes `chi2Of` of the gathered lanes. Assumes nothing.
 use borrow.Author.Needs.{needs}
-use Rattle.keccak.specs.Rows.{numbers, gathered, gatherOf, chi2Of}
-use Rattle.keccak.proofs.Numbers.{equal-five}
+use Rattle.keccak.specs.Rows.{numbers, chi2Of}
+use Rattle.keccak.proofs.Numbers.{row-is}
 use Rattle.keccak.proofs.row2.Statement.{statement}
 use Rattle.keccak.proofs.row2.Tie as tie
 
 returns : tie.Need-returns
-unfolding gathered gatherOf chi2Of
+unfolding chi2Of
 returns c =
-    equal-five (chi2Of numbers)
+    let b = c .before .before .before .before .before in
+    let a = b .before .args in
+    row-is (a .p) (a .q) (a .r) (a .s) (a .t) (a .d) 1 (chi2Of numbers) (b .gather .ensures)
     (c .before .before .before .before .turned .ensures) (c .before .before .before .turned2 .ensures) (c .before .before .turned3 .ensures) (c .before .turned4 .ensures) (c .turned5 .ensures)
 
 pub row2-spec : {M : Type 1} → statement M
-row2-spec = tie.close (tie.spec (λ c κs. search needs) (λ c κs. search needs) (λ c κs. search needs) (λ c κs. search needs) (λ c κs. search needs) returns)
+row2-spec = tie.close (tie.spec (λ c κs. search needs) (λ c κs. search needs) (λ c κs. search needs) (λ c κs. search needs) (λ c κs. search needs) (λ c κs. search needs) returns)

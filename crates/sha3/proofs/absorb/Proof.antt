@@ -27,41 +27,11 @@ abbrev μ-loop : tie.MeasureT-loop
 loop-holds : tie.Need-loop-holds Inv-loop μ-loop
 loop-holds c = (search needs, (search needs, (search needs, refl)))
 
-sub-if2 : tie.Need-sub-if2 Inv-loop μ-loop
-sub-if2 c = omega arith
-
 word-requires : tie.Need-word-requires Inv-loop μ-loop
 word-requires c κs = omega (arith, leb-true)
 
-mul-l : tie.Need-mul-l Inv-loop μ-loop
-mul-l c = omega arith
-
-array-read-l : tie.Need-array-read-l Inv-loop μ-loop
-array-read-l c = omega arith
-
-mul-l-2 : tie.Need-mul-l-2 Inv-loop μ-loop
-mul-l-2 c = omega arith
-
-array-write-l : tie.Need-array-write-l Inv-loop μ-loop
-array-write-l c = omega arith
-
 add-i : tie.Need-add-i Inv-loop μ-loop
 add-i c = omega (arith, leb-true)
-
-add-fill : tie.Need-add-fill Inv-loop μ-loop
-add-fill c = omega arith
-
-shared-slice-read-xor-byte : tie.Need-shared-slice-read-xor-byte Inv-loop μ-loop
-shared-slice-read-xor-byte c = omega arith
-
-xor-byte-requires : tie.Need-xor-byte-requires Inv-loop μ-loop
-xor-byte-requires c κs = omega arith
-
-add-i-2 : tie.Need-add-i-2 Inv-loop μ-loop
-add-i-2 c = omega arith
-
-add-fill-2 : tie.Need-add-fill-2 Inv-loop μ-loop
-add-fill-2 c = omega arith
 
 -- where the two ways meet: a word or a byte was added, and the sponge is to be permuted if it is full
 record Added (rate : ℕ) (p l₀ : List ℕ) (fill₀ i : ℕ) (l : List ℕ) (fill i′ : ℕ) : Type 0 where
@@ -113,9 +83,6 @@ added c =
       same = moved (args .rate) p l′ (w .5) (w .6) ∙ sym (byte-law (args .rate) p l n i (omega arith)) ∙ a .loop .inv .1 .1 .1;
     })
     (c .if1 .came)
-
-permute-requires : tie.Need-permute-requires Inv-loop μ-loop
-permute-requires c κs = search needs
 
 loop-less : tie.Need-loop-less Inv-loop μ-loop
 loop-less c = omega (arith, added (c .before .before))
@@ -173,19 +140,19 @@ absorb-spec =
     Inv-loop
     μ-loop
     loop-holds
-    sub-if2
+    (λ c. omega arith)
     word-requires
-    mul-l
-    array-read-l
-    mul-l-2
-    array-write-l
+    (λ c. omega arith)
+    (λ c. omega arith)
+    (λ c. omega arith)
+    (λ c. omega arith)
     add-i
-    add-fill
-    shared-slice-read-xor-byte
-    xor-byte-requires
-    add-i-2
-    add-fill-2
-    permute-requires
+    (λ c. omega arith)
+    (λ c. omega arith)
+    (λ c κs. omega arith)
+    (λ c. omega arith)
+    (λ c. omega arith)
+    (λ c κs. search needs)
     loop-less
     loop-again
     loop-less-2

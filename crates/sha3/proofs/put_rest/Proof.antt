@@ -19,9 +19,6 @@ Inv-loop v from out₀ i₀ i-end out i =
 abbrev μ-loop : tie.MeasureT-loop
 μ-loop v from out₀ i₀ i-end out i = length out₀ - i
 
-loop-holds : tie.Need-loop-holds Inv-loop μ-loop
-loop-holds c = search needs
-
 cast-out : tie.Need-cast-out Inv-loop μ-loop
 cast-out c =
     let a = c .before .before in
@@ -55,7 +52,7 @@ put-rest-spec =
     (tie.spec
     Inv-loop
     μ-loop
-    loop-holds
+    (λ c. search needs)
     (λ c. omega arith)
     (λ c. omega arith)
     (λ c. omega arith)
