@@ -41,11 +41,7 @@ fn half_if_compared(
         drawn,
         rank,
     };
-    let k = reader::step(bytes, at, Due::ListHalf(l, j), c, text, marks);
-    if k != 0 {
-        return Found::Fault(k, at);
-    }
-    Found::Nothing
+    reader::command_fault(bytes, at, Due::ListHalf(l, j), c, text, marks)
 }
 
 // The halves of all linked entries of ballot j.
@@ -94,10 +90,10 @@ fn half_faults(
         drawn,
         rank: 0,
     };
-    let k = reader::step(bytes, at, Due::BallotHalf(j), c, text, marks);
-    if k != 0 {
-        return Found::Fault(k, at);
-    }
+    let f = reader::command_fault(bytes, at, Due::BallotHalf(j), c, text, marks);
+    let Found::Nothing = f else {
+        return f;
+    };
     list_half_faults(bytes, p, drawn, mask, j, text, marks)
 }
 
@@ -147,10 +143,10 @@ fn vote_faults(
             drawn,
             rank: 0,
         };
-        let k = reader::step(bytes, at, Due::Vote(i), c, text, marks);
-        if k != 0 {
-            return Found::Fault(k, at);
-        }
+        let f = reader::command_fault(bytes, at, Due::Vote(i), c, text, marks);
+        let Found::Nothing = f else {
+            return f;
+        };
         i += 1;
     }
     Found::Nothing
@@ -178,10 +174,10 @@ fn full_faults(
             drawn,
             rank,
         };
-        let k = reader::step(bytes, at, Due::FullOpening(l, i), c, text, marks);
-        if k != 0 {
-            return Found::Fault(k, at);
-        }
+        let f = reader::command_fault(bytes, at, Due::FullOpening(l, i), c, text, marks);
+        let Found::Nothing = f else {
+            return f;
+        };
         i += 1;
     }
     Found::Nothing
@@ -250,10 +246,10 @@ fn end_faults(
         drawn,
         rank: 0,
     };
-    let k = reader::step(bytes, at, Due::End, c, text, marks);
-    if k != 0 {
-        return Found::Fault(k, at);
-    }
+    let f = reader::command_fault(bytes, at, Due::End, c, text, marks);
+    let Found::Nothing = f else {
+        return f;
+    };
     if at + 1 < bytes.len() {
         return Found::Fault(17, at + 1);
     }
@@ -303,10 +299,10 @@ pub fn part_three_faults(
         drawn,
         rank: 0,
     };
-    let k = reader::step(bytes, at, Due::SecondDice, c, text, marks);
-    if k != 0 {
-        return Found::Fault(k, at);
-    }
+    let f = reader::command_fault(bytes, at, Due::SecondDice, c, text, marks);
+    let Found::Nothing = f else {
+        return f;
+    };
     let mask = wire::read4(bytes, layout::at_first_dice(p) + 31);
     let sides_text = stages::dice_text(bytes, at, drawn, prefix);
     let h = all_half_faults(bytes, p, drawn, mask, &sides_text, marks);

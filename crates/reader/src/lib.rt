@@ -1,12 +1,14 @@
 // The command reader: each command byte leads to its own rule, and every byte not due is refused.
 ghost use mathlib.Core.Path.{_≡_};
 ghost use Rattle.protocol.specs.Rules.{placeOf, fault};
+ghost use Rattle.protocol.specs.Judging.{found};
 ghost use Rattle.reader.specs.Ready.{Ready};
+use laws::Found;
 use protocol::Due;
 use protocol::Parameters;
 
 // What a command is judged by beside the record: the parameters, whether mask and sides are to be the drawn ones, and how many compared
-// lists come before that of a list half.
+// lists come before that of a list half. `rank` is read for a list half only; other commands do not look at it.
 pub struct Context {
     pub parameters: Parameters,
     pub drawn: bool,
@@ -152,16 +154,29 @@ fn read<'a, 'b, 'c>(
 }
 
 // One command through the reader. Its parameters are plain, so whoever calls it needs nothing of the reader's.
-pub fn step(
+fn step(bytes: &[u8], at: usize, due: Due, c: Context, text: &[u8; 86], marks: &[bool; 1024]) -> u32
+    requires { ⌜ (at ≡ placeOf (c .parameters) (now bytes) due) × Ready (c .parameters) (now bytes) (c .drawn) (c .rank) (now text) (now marks) due ⌝ }
+    ensures { λ k. ⌜ k ≡ fault (c .parameters) (now (bytes .entry)) (c .drawn) due ⌝ }
+{
+    read(Reader { bytes, at }, due, c, text, marks)
+}
+
+// What is found of the due command at a place: the number of the first rule that it breaks with the place where the command starts, or
+// nothing.
+pub fn command_fault(
     bytes: &[u8],
     at: usize,
     due: Due,
     c: Context,
     text: &[u8; 86],
     marks: &[bool; 1024],
-) -> u32
+) -> Found
     requires { ⌜ (at ≡ placeOf (c .parameters) (now bytes) due) × Ready (c .parameters) (now bytes) (c .drawn) (c .rank) (now text) (now marks) due ⌝ }
-    ensures { λ k. ⌜ k ≡ fault (c .parameters) (now (bytes .entry)) (c .drawn) due ⌝ }
+    ensures { λ r. ⌜ r ≡ found (c .drawn) (c .parameters) (now (bytes .entry)) due ⌝ }
 {
-    read(Reader { bytes, at }, due, c, text, marks)
+    let k = step(bytes, at, due, c, text, marks);
+    if k != 0 {
+        return Found::Fault(k, at);
+    }
+    Found::Nothing
 }

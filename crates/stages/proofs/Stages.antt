@@ -1,5 +1,5 @@
 -- Where a stage goes on and where it stops.
-use mathlib.Core.Path.{_≡_, refl, sym, ap₂, _∙_}
+use mathlib.Core.Path.{_≡_, refl, sym, _∙_}
 use mathlib.Core.Logic.{_↔_, _≢_}
 use mathlib.Core.Bool.{Bool}
 use mathlib.Core.List.{List}
@@ -8,7 +8,7 @@ use native.Mathlib.Omega.{arith}
 use Rattle.laws.specs.declared.Found.{Found}
 use Rattle.laws.specs.declared.Found.the-variants.{Nothing, Fault}
 use Rattle.laws.specs.Tests.{choose-clear, choose-set}
-use Rattle.laws.specs.Faults.{_then_, first, located, nothing-fault, located-at, located-nothing, then-go, then-stop, first-stop}
+use Rattle.laws.specs.Faults.{_then_, first, nothing-fault, located-nothing, then-go, then-stop, first-stop}
 use Rattle.laws.specs.Masks.{bit}
 use Rattle.protocol.specs.declared.Parameters.{Parameters}
 use Rattle.protocol.specs.declared.Due.{Due}
@@ -26,14 +26,6 @@ module _ (drawn : Bool) (p : Parameters) (r : List ℕ) (d : Due) where
   pub found-nothing : (found drawn p r d ≡ Nothing) ↔ (fault p r drawn d ≡ 0)
   unfolding found
   found-nothing = located-nothing (placeOf p r d) (fault p r drawn d)
-
-  -- what the command reader answers of the command at its place
-  pub found-fault : {k at : ℕ} → at ≡ placeOf p r d → k ≡ fault p r drawn d → k ≢ 0 → Fault k at ≡ found drawn p r d
-  unfolding found
-  found-fault {k} {at} a e ne = located-at at k ne ∙ ap₂ located a e
-
-  pub found-none : {k : ℕ} → k ≡ fault p r drawn d → k ≡ 0 → found drawn p r d ≡ Nothing
-  found-none e z = found-nothing .1 (sym e ∙ z)
 
 -- ---- a row of searches
 

@@ -42,10 +42,10 @@ pub fn ballot_faults(
             drawn,
             rank: 0,
         };
-        let k = reader::step(bytes, at, Due::Ballot(j), c, text, marks);
-        if k != 0 {
-            return Found::Fault(k, at);
-        }
+        let f = reader::command_fault(bytes, at, Due::Ballot(j), c, text, marks);
+        let Found::Nothing = f else {
+            return f;
+        };
         j += 1;
     }
     Found::Nothing
@@ -72,10 +72,10 @@ fn entry_faults(
             drawn,
             rank: 0,
         };
-        let k = reader::step(bytes, at, Due::Entry(l, i), c, text, marks);
-        if k != 0 {
-            return Found::Fault(k, at);
-        }
+        let f = reader::command_fault(bytes, at, Due::Entry(l, i), c, text, marks);
+        let Found::Nothing = f else {
+            return f;
+        };
         i += 1;
     }
     Found::Nothing
@@ -159,11 +159,7 @@ fn first_dice_fault(
         drawn,
         rank: 0,
     };
-    let k = reader::step(bytes, at, Due::FirstDice, c, &text, marks);
-    if k != 0 {
-        return Found::Fault(k, at);
-    }
-    Found::Nothing
+    reader::command_fault(bytes, at, Due::FirstDice, c, &text, marks)
 }
 
 // The links of one compared list, with its row of marks; `rank` compared lists come before.
@@ -188,10 +184,11 @@ fn link_faults(
             drawn,
             rank,
         };
-        let k = reader::step(bytes, at, Due::Link(l, j), c, text, &marks);
-        if k != 0 {
-            return Found::Fault(k, at);
-        }
+        let f = reader::command_fault(bytes, at, Due::Link(l, j), c, text, &marks);
+        let Found::Nothing = f else {
+            return f;
+        };
+        // the link stands, so by rule 9 its position is below n
         let position = wire::read2(bytes, at + 4) as usize;
         marks[position] = true;
         j += 1;

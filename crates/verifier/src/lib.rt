@@ -43,11 +43,7 @@ fn first_command_fault(bytes: &[u8], drawn: bool, text: &[u8; 86], marks: &[bool
         drawn,
         rank: 0,
     };
-    let k = reader::step(bytes, 0, Due::First, c, text, marks);
-    if k != 0 {
-        return Found::Fault(k, 0);
-    }
-    Found::Nothing
+    reader::command_fault(bytes, 0, Due::First, c, text, marks)
 }
 
 // ---- the whole record

@@ -1,9 +1,10 @@
 -- `closing::full_faults` meets its contract: no full opening passed has a fault.
-use mathlib.Core.Path.{_≡_, refl, ap, _∙_}
+use mathlib.Core.Path.{_≡_, ap, _∙_}
 use mathlib.Core.Bool.{Bool}
 use mathlib.Core.List.{List}
 use Prim.Native.Nat.{ℕ, _-_, _≤_}
 use native.Mathlib.Omega.{arith}
+use borrow.Author.Needs.{needs}
 use Rattle.laws.specs.declared.Found.{Found}
 use Rattle.laws.specs.declared.Found.the-variants.{Nothing}
 use Rattle.laws.specs.Faults.{first, first-more}
@@ -12,7 +13,7 @@ use Rattle.protocol.specs.declared.Due.the-variants.{FullOpening}
 use Rattle.protocol.specs.Layout.{atFullOpening}
 use Rattle.protocol.specs.Record.{fullPlace}
 use Rattle.protocol.specs.Judging.{found, fullFaults}
-use Rattle.stages.proofs.Stages.{found-fault, found-none, row-start, row-stop, row-end}
+use Rattle.stages.proofs.Stages.{passed-as, row-start, row-stop, row-end}
 use Rattle.closing.proofs.Known.{full-known}
 use Rattle.closing.proofs.full_faults.Statement.{statement}
 use Rattle.closing.proofs.full_faults.Tie as tie
@@ -39,19 +40,19 @@ place : (c : tie.After-at-full-opening Inv-loop μ-loop) →
 unfolding fullPlace
 place c = let s = c .before .before .before .before in c .at-full-opening .ensures .0 ∙ ap (λ (k : ℕ). atFullOpening (s .args .p) k (c .before .before .loop .i)) (s .pre .2)
 
-step-requires : tie.Need-step-requires Inv-loop μ-loop
-step-requires c κs = let s = c .before .before .before .before in (place c, full-known (s .pre .0) (s .pre .1) (c .before .loop-test .taken) (c .before .before .loop .inv .1))
+command-fault-requires : tie.Need-command-fault-requires Inv-loop μ-loop
+command-fault-requires c κs = let s = c .before .before .before .before in (place c, full-known (s .pre .0) (s .pre .1) (c .before .loop-test .taken) (c .before .before .loop .inv .1))
 
 returns : tie.Need-returns Inv-loop μ-loop
 unfolding fullFaults
 returns c =
-    let g = c .before .before .before .before in
-    row-stop _ _ (g .loop .i) (omega arith) (g .loop .inv .1) (found-fault _ _ _ _ (place (c .before .before)) (c .before .step .ensures) (c .if1 .taken)) refl
+    let g = c .before .before .before .before .before in
+    row-stop _ _ (g .loop .i) (omega arith) (g .loop .inv .1) (c .before .before .command-fault .ensures) (c .enum-told2 .given .1)
 
 loop-again : tie.Need-loop-again Inv-loop μ-loop
 loop-again c =
-    let g = c .before .before .before .before in
-    (omega arith, first-more _ _ (g .loop .inv .1) (found-none _ _ _ _ (c .before .step .ensures) (c .if1 .left)))
+    let g = c .before .before .before .before .before in
+    (omega arith, first-more _ _ (g .loop .inv .1) (passed-as (c .before .before .command-fault .ensures) (c .enum-told .given .1)))
 
 returns-2 : tie.Need-returns-2 Inv-loop μ-loop
 unfolding fullFaults
@@ -65,7 +66,9 @@ full-faults-spec =
     μ-loop
     loop-holds
     at-full-opening-requires
-    step-requires
+    command-fault-requires
+    (λ c. search needs)
+    (λ c. search needs)
     returns
     (λ c. omega arith)
     (λ c. omega arith)

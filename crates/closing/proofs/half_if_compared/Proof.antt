@@ -1,12 +1,12 @@
 -- `closing::half_if_compared` meets its contract: by the list's bit of the mask.
-use mathlib.Core.Path.{_≡_, sym, ap, _∙_}
+use mathlib.Core.Path.{_≡_, ap, _∙_}
 use mathlib.Core.Logic.{_≢_}
 use native.Mathlib.Omega.{arith}
 use borrow.Author.Needs.{needs}
 use Rattle.laws.specs.Masks.{bit}
 use Rattle.protocol.specs.Layout.{atListHalf}
 use Rattle.protocol.specs.Record.{maskOf, listHalfPlace}
-use Rattle.stages.proofs.Stages.{found-fault, found-none, compared-go, compared-pass}
+use Rattle.stages.proofs.Stages.{compared-go, compared-pass}
 use Rattle.stages.proofs.Known.{bit-is, bit-not, bit-one}
 use Rattle.closing.proofs.Known.{half-known}
 use Rattle.closing.proofs.half_if_compared.Statement.{statement}
@@ -27,14 +27,11 @@ place c = let s = c .before .before .before in c .at-list-half .ensures .0 ∙ a
 set : (c : tie.Else1) → (let s = c .before .before .args in bit (maskOf (s .p) (s .bytes .now)) (s .l) ≢ 0)
 set c = let s = c .before .before in bit-not (s .args .l) (s .pre .0 .mask-is) (c .if1 .left)
 
-step-requires : tie.Need-step-requires
-step-requires c κs = let s = c .before .before .before in (place c, half-known (s .pre .0) (s .pre .1) (s .pre .2) (bit-one _ (s .args .l) (set (c .before))))
+command-fault-requires : tie.Need-command-fault-requires
+command-fault-requires c κs = let s = c .before .before .before in (place c, half-known (s .pre .0) (s .pre .1) (s .pre .2) (bit-one _ (s .args .l) (set (c .before))))
 
 returns-2 : tie.Need-returns-2
-returns-2 c = compared-go _ _ _ _ (set (c .before .before .before)) (found-fault _ _ _ _ (place (c .before .before)) (c .before .step .ensures) (c .if2 .taken))
-
-returns-3 : tie.Need-returns-3
-returns-3 c = compared-go _ _ _ _ (set (c .before .before .before)) (sym (found-none _ _ _ _ (c .before .step .ensures) (c .if2 .left)))
+returns-2 c = compared-go _ _ _ _ (set (c .before .before)) (c .command-fault .ensures)
 
 pub half-if-compared-spec : {M : Type 1} → statement M
 half-if-compared-spec =
@@ -44,6 +41,5 @@ half-if-compared-spec =
     (λ c. search needs)
     returns
     at-list-half-requires
-    step-requires
-    returns-2
-    returns-3)
+    command-fault-requires
+    returns-2)

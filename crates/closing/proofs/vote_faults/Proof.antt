@@ -1,5 +1,5 @@
 -- `closing::vote_faults` meets its contract: no vote passed has a fault.
-use mathlib.Core.Path.{_≡_, refl}
+use mathlib.Core.Path.{_≡_}
 use mathlib.Core.Bool.{Bool}
 use mathlib.Core.List.{List}
 use Prim.Native.Nat.{ℕ, _-_, _≤_}
@@ -11,7 +11,7 @@ use Rattle.laws.specs.Faults.{first, first-more}
 use Rattle.protocol.specs.declared.Parameters.{Parameters}
 use Rattle.protocol.specs.declared.Due.the-variants.{Vote}
 use Rattle.protocol.specs.Judging.{found, voteFaults}
-use Rattle.stages.proofs.Stages.{found-fault, found-none, row-start, row-stop, row-end}
+use Rattle.stages.proofs.Stages.{passed-as, row-start, row-stop, row-end}
 use Rattle.closing.proofs.vote_faults.Statement.{statement}
 use Rattle.closing.proofs.vote_faults.Tie as tie
 
@@ -34,13 +34,13 @@ at-vote-requires c κs = (c .before .before .before .pre, omega arith)
 returns : tie.Need-returns Inv-loop μ-loop
 unfolding voteFaults
 returns c =
-    let g = c .before .before .before .before in
-    row-stop _ _ (g .loop .i) (omega arith) (g .loop .inv .1) (found-fault _ _ _ _ (c .before .before .at-vote .ensures .0) (c .before .step .ensures) (c .if1 .taken)) refl
+    let g = c .before .before .before .before .before in
+    row-stop _ _ (g .loop .i) (omega arith) (g .loop .inv .1) (c .before .before .command-fault .ensures) (c .enum-told2 .given .1)
 
 loop-again : tie.Need-loop-again Inv-loop μ-loop
 loop-again c =
-    let g = c .before .before .before .before in
-    (omega arith, first-more _ _ (g .loop .inv .1) (found-none _ _ _ _ (c .before .step .ensures) (c .if1 .left)))
+    let g = c .before .before .before .before .before in
+    (omega arith, first-more _ _ (g .loop .inv .1) (passed-as (c .before .before .command-fault .ensures) (c .enum-told .given .1)))
 
 returns-2 : tie.Need-returns-2 Inv-loop μ-loop
 unfolding voteFaults
@@ -55,6 +55,8 @@ vote-faults-spec =
     loop-holds
     at-vote-requires
     (λ c κs. search needs)
+    (λ c. search needs)
+    (λ c. search needs)
     returns
     (λ c. omega arith)
     (λ c. omega arith)

@@ -1,5 +1,5 @@
 -- `stages::ballot_faults` meets its contract: no ballot passed has a fault.
-use mathlib.Core.Path.{_≡_, refl}
+use mathlib.Core.Path.{_≡_}
 use mathlib.Core.Bool.{Bool}
 use mathlib.Core.List.{List}
 use Prim.Native.Nat.{ℕ, _-_, _≤_}
@@ -11,7 +11,7 @@ use Rattle.laws.specs.Faults.{first, first-more}
 use Rattle.protocol.specs.declared.Parameters.{Parameters}
 use Rattle.protocol.specs.declared.Due.the-variants.{Ballot}
 use Rattle.protocol.specs.Judging.{found, ballotFaults}
-use Rattle.stages.proofs.Stages.{found-fault, found-none, row-start, row-stop, row-end}
+use Rattle.stages.proofs.Stages.{passed-as, row-start, row-stop, row-end}
 use Rattle.stages.proofs.ballot_faults.Statement.{statement}
 use Rattle.stages.proofs.ballot_faults.Tie as tie
 
@@ -31,13 +31,13 @@ loop-holds c = (omega arith, row-start _)
 returns : tie.Need-returns Inv-loop μ-loop
 unfolding ballotFaults
 returns c =
-    let g = c .before .before .before .before in
-    row-stop _ _ (g .loop .j) (omega arith) (g .loop .inv .1) (found-fault _ _ _ _ (c .before .before .at-ballot .ensures .0) (c .before .step .ensures) (c .if1 .taken)) refl
+    let g = c .before .before .before .before .before in
+    row-stop _ _ (g .loop .j) (omega arith) (g .loop .inv .1) (c .before .before .command-fault .ensures) (c .enum-told2 .given .1)
 
 loop-again : tie.Need-loop-again Inv-loop μ-loop
 loop-again c =
-    let g = c .before .before .before .before in
-    (omega arith, first-more _ _ (g .loop .inv .1) (found-none _ _ _ _ (c .before .step .ensures) (c .if1 .left)))
+    let g = c .before .before .before .before .before in
+    (omega arith, first-more _ _ (g .loop .inv .1) (passed-as (c .before .before .command-fault .ensures) (c .enum-told .given .1)))
 
 returns-2 : tie.Need-returns-2 Inv-loop μ-loop
 unfolding ballotFaults
@@ -52,6 +52,8 @@ ballot-faults-spec =
     loop-holds
     (λ c κs. omega arith)
     (λ c κs. search needs)
+    (λ c. search needs)
+    (λ c. search needs)
     returns
     (λ c. omega arith)
     (λ c. omega arith)

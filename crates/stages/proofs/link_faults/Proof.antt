@@ -1,9 +1,10 @@
 -- `stages::link_faults` meets its contract: no link passed has a fault, and the marks are those of their positions.
-use mathlib.Core.Path.{_≡_, refl, sym, ap, _∙_}
+use mathlib.Core.Path.{_≡_, refl, ap, _∙_}
 use mathlib.Core.Bool.{Bool, true}
 use mathlib.Core.List.{List}
 use Prim.Native.Nat.{ℕ, _-_, _≤_, _<_}
 use native.Mathlib.Omega.{arith}
+use borrow.Author.Needs.{needs}
 use lib.ListN.{length}
 use Rattle.laws.specs.declared.Found.{Found}
 use Rattle.laws.specs.declared.Found.the-variants.{Nothing}
@@ -13,7 +14,7 @@ use Rattle.protocol.specs.declared.Due.the-variants.{Link}
 use Rattle.protocol.specs.Layout.{atLink}
 use Rattle.protocol.specs.Record.{linkPlace, positionOf}
 use Rattle.protocol.specs.Judging.{found, linkFaults}
-use Rattle.stages.proofs.Stages.{found-fault, found-none, row-start, row-stop, row-end}
+use Rattle.stages.proofs.Stages.{passed-as, found-nothing, row-start, row-stop, row-end}
 use Rattle.stages.proofs.Known.{stands-whole, link-position}
 use lib.ListN.{length-set}
 use Rattle.protocol.specs.Terms.{mostBallots}
@@ -46,54 +47,59 @@ place : (c : tie.After-at-link Inv-loop μ-loop) →
 unfolding linkPlace
 place c = let s = c .before .before .before .before in c .at-link .ensures .0 ∙ ap (λ (k : ℕ). atLink (s .args .p) k (c .before .before .loop .j)) (s .pre .1)
 
-step-requires : tie.Need-step-requires Inv-loop μ-loop
-step-requires c κs = (place (c .before), record { few = c .before .before .before .before .before .pre .0 .few .ballots; marked = c .before .before .before .loop .inv .3 })
+command-fault-requires : tie.Need-command-fault-requires Inv-loop μ-loop
+command-fault-requires c κs = (place (c .before), record { few = c .before .before .before .before .before .pre .0 .few .ballots; marked = c .before .before .before .loop .inv .3 })
 
 returns : tie.Need-returns Inv-loop μ-loop
 unfolding linkFaults
 returns c =
-    let g = c .before .before .before .before .before in
-    row-stop _ _ (g .loop .j) (omega arith) (g .loop .inv .1) (found-fault _ _ _ _ (place (c .before .before .before)) (c .before .step .ensures) (c .if1 .taken)) refl
+    let g = c .before .before .before .before .before .before in
+    row-stop _ _ (g .loop .j) (omega arith) (g .loop .inv .1) (c .before .before .command-fault .ensures) (c .enum-told2 .given .1)
 
--- the link stands
-stands : (c : tie.Else1 Inv-loop μ-loop) →
-    (let s = c .before .before .before .before .before .before .before .args in fault (s .p) (s .bytes .now) (s .drawn) (Link (s .l) (c .before .before .before .before .before .loop .j)) ≡ 0)
-stands c = sym (c .before .step .ensures) ∙ c .if1 .left
+-- nothing is found of the link
+passed : (c : tie.After-enum-told Inv-loop μ-loop) →
+    (let s = c .before .before .before .before .before .before .before .before .args in row (s .drawn) (s .p) (s .bytes .now) (s .l) (c .before .before .before .before .before .before .loop .j) ≡ Nothing)
+passed c = passed-as (c .before .before .command-fault .ensures) (c .enum-told .given .1)
+
+-- so it stands
+stands : (c : tie.After-enum-told Inv-loop μ-loop) →
+    (let s = c .before .before .before .before .before .before .before .before .args in fault (s .p) (s .bytes .now) (s .drawn) (Link (s .l) (c .before .before .before .before .before .before .loop .j)) ≡ 0)
+stands c = found-nothing _ _ _ _ .0 (passed c)
 
 add-read2 : tie.Need-add-read2 Inv-loop μ-loop
-add-read2 c = omega (arith, c .before .before .before .at-link .ensures .1)
+add-read2 c = omega (arith, c .before .before .before .before .at-link .ensures .1)
 
 read2-requires : tie.Need-read2-requires Inv-loop μ-loop
 read2-requires c κs =
-    let s = c .before .before .before .before .before .before .before .args in
-    omega (arith, stands-whole (s .drawn) (s .p) (s .bytes .now) (Link (s .l) (c .before .before .before .before .before .loop .j)) (stands c), place (c .before .before .before))
+    let s = c .before .before .before .before .before .before .before .before .args in
+    omega (arith, stands-whole (s .drawn) (s .p) (s .bytes .now) (Link (s .l) (c .before .before .before .before .before .before .loop .j)) (stands c), place (c .before .before .before .before))
 
 cast-position : tie.Need-cast-position Inv-loop μ-loop
 cast-position c = omega (arith, c .read2 .ensures .1)
 
 -- the position that the link names
 position : (c : tie.After-read2 Inv-loop μ-loop) →
-    (let s = c .before .before .before .before .before .before .before .before .args in c .read2 .result ≡ positionOf (s .p) (s .bytes .now) (s .l) (c .before .before .before .before .before .before .loop .j))
+    (let s = c .before .before .before .before .before .before .before .before .before .args in c .read2 .result ≡ positionOf (s .p) (s .bytes .now) (s .l) (c .before .before .before .before .before .before .before .loop .j))
 unfolding positionOf
-position c = rw (← place (c .before .before .before .before)) (c .read2 .ensures .0)
+position c = rw (← place (c .before .before .before .before .before)) (c .read2 .ensures .0)
 
 marked : (c : tie.After-read2 Inv-loop μ-loop) → c .read2 .result < mostBallots
 marked c =
-    let s = c .before .before .before .before .before .before .before .before in
-    omega (arith, position c, link-position (s .args .drawn) (s .args .p) (s .args .bytes .now) (s .args .l) (c .before .before .before .before .before .before .loop .j) (stands (c .before)), s .pre .0 .few .ballots)
+    let s = c .before .before .before .before .before .before .before .before .before in
+    omega (arith, position c, link-position (s .args .drawn) (s .args .p) (s .args .bytes .now) (s .args .l) (c .before .before .before .before .before .before .before .loop .j) (stands (c .before)), s .pre .0 .few .ballots)
 
 array-write-marks : tie.Need-array-write-marks Inv-loop μ-loop
 array-write-marks c = marked c
 
 add-j : tie.Need-add-j Inv-loop μ-loop
-add-j c = omega (arith, c .before .before .before .before .before .before .before .before .pre .0 .few .ballots)
+add-j c = omega (arith, c .before .before .before .before .before .before .before .before .before .pre .0 .few .ballots)
 
 loop-again : tie.Need-loop-again Inv-loop μ-loop
 loop-again c =
-    let g = c .before .before .before .before .before .before .loop in
-    let s = c .before .before .before .before .before .before .before .before .args in (
+    let g = c .before .before .before .before .before .before .before .loop in
+    let s = c .before .before .before .before .before .before .before .before .before .args in (
       omega arith,
-      first-more _ _ (g .inv .1) (found-none _ _ _ _ (c .before .before .step .ensures) (c .before .if1 .left)),
+      first-more _ _ (g .inv .1) (passed (c .before)),
       length-set (g .marks) (c .read2 .result) true ∙ g .inv .2,
       one-marked (s .p) (s .bytes .now) (s .l) (g .j) (g .inv .2) (marked c) (position c) (g .inv .3),
     )
@@ -110,7 +116,9 @@ link-faults-spec =
     μ-loop
     loop-holds
     at-link-requires
-    step-requires
+    command-fault-requires
+    (λ c. search needs)
+    (λ c. search needs)
     returns
     add-read2
     read2-requires
