@@ -13,7 +13,6 @@ ghost use Rattle.closing.specs.Passed.{PartTwoPassed, HalfPassed, Halves
 use laws::Found;
 use protocol::Due;
 use protocol::Parameters;
-use reader::Context;
 
 // ---- commands 07 and 08
 
@@ -36,12 +35,7 @@ fn half_if_compared(
         return Found::Nothing;
     }
     let at = layout::at_list_half(p, j, rank);
-    let c = Context {
-        parameters: p,
-        drawn,
-        rank,
-    };
-    reader::command_fault(bytes, at, Due::ListHalf(l, j), c, text, marks)
+    reader::command_fault(bytes, at, Due::ListHalf(l, j), p, drawn, rank, text, marks)
 }
 
 // The halves of all linked entries of ballot j.
@@ -85,12 +79,7 @@ fn half_faults(
     ensures { λ r. ⌜ r ≡ halfFaults drawn p (now (bytes .entry)) j ⌝ }
 {
     let at = layout::at_ballot_half(p, j);
-    let c = Context {
-        parameters: p,
-        drawn,
-        rank: 0,
-    };
-    let f = reader::command_fault(bytes, at, Due::BallotHalf(j), c, text, marks);
+    let f = reader::command_fault(bytes, at, Due::BallotHalf(j), p, drawn, 0, text, marks);
     let Found::Nothing = f else {
         return f;
     };
@@ -138,12 +127,7 @@ fn vote_faults(
     let mut i: usize = 0;
     while i < n {
         let at = layout::at_vote(p, i);
-        let c = Context {
-            parameters: p,
-            drawn,
-            rank: 0,
-        };
-        let f = reader::command_fault(bytes, at, Due::Vote(i), c, text, marks);
+        let f = reader::command_fault(bytes, at, Due::Vote(i), p, drawn, 0, text, marks);
         let Found::Nothing = f else {
             return f;
         };
@@ -169,12 +153,16 @@ fn full_faults(
     let mut i: usize = 0;
     while i < n {
         let at = layout::at_full_opening(p, rank, i);
-        let c = Context {
-            parameters: p,
+        let f = reader::command_fault(
+            bytes,
+            at,
+            Due::FullOpening(l, i),
+            p,
             drawn,
             rank,
-        };
-        let f = reader::command_fault(bytes, at, Due::FullOpening(l, i), c, text, marks);
+            text,
+            marks,
+        );
         let Found::Nothing = f else {
             return f;
         };
@@ -241,12 +229,7 @@ fn end_faults(
     ensures { λ r. ⌜ r ≡ found drawn p (now (bytes .entry)) Due.End then trailingFault p (now (bytes .entry)) ⌝ }
 {
     let at = layout::at_end(p);
-    let c = Context {
-        parameters: p,
-        drawn,
-        rank: 0,
-    };
-    let f = reader::command_fault(bytes, at, Due::End, c, text, marks);
+    let f = reader::command_fault(bytes, at, Due::End, p, drawn, 0, text, marks);
     let Found::Nothing = f else {
         return f;
     };
@@ -294,12 +277,7 @@ pub fn part_three_faults(
     ensures { λ r. ⌜ r ≡ partThreeFaults drawn p (now (bytes .entry)) ⌝ }
 {
     let at = layout::at_second_dice(p);
-    let c = Context {
-        parameters: p,
-        drawn,
-        rank: 0,
-    };
-    let f = reader::command_fault(bytes, at, Due::SecondDice, c, text, marks);
+    let f = reader::command_fault(bytes, at, Due::SecondDice, p, drawn, 0, text, marks);
     let Found::Nothing = f else {
         return f;
     };

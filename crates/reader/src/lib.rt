@@ -9,10 +9,10 @@ use protocol::Parameters;
 
 // What a command is judged by beside the record: the parameters, whether mask and sides are to be the drawn ones, and how many compared
 // lists come before that of a list half. `rank` is read for a list half only; other commands do not look at it.
-pub struct Context {
-    pub parameters: Parameters,
-    pub drawn: bool,
-    pub rank: usize,
+struct Context {
+    parameters: Parameters,
+    drawn: bool,
+    rank: usize,
 }
 
 // The number of the first rule that the due command at a place breaks, or 0: no byte left 1, byte not due 2, cut short 1, then its rules.
@@ -167,13 +167,20 @@ pub fn command_fault(
     bytes: &[u8],
     at: usize,
     due: Due,
-    c: Context,
+    p: Parameters,
+    drawn: bool,
+    rank: usize,
     text: &[u8; 86],
     marks: &[bool; 1024],
 ) -> Found
-    requires { ⌜ (at ≡ placeOf (c .parameters) (now bytes) due) × Ready (c .parameters) (now bytes) (c .drawn) (c .rank) (now text) (now marks) due ⌝ }
-    ensures { λ r. ⌜ r ≡ found (c .drawn) (c .parameters) (now (bytes .entry)) due ⌝ }
+    requires { ⌜ (at ≡ placeOf p (now bytes) due) × Ready p (now bytes) drawn rank (now text) (now marks) due ⌝ }
+    ensures { λ r. ⌜ r ≡ found drawn p (now (bytes .entry)) due ⌝ }
 {
+    let c = Context {
+        parameters: p,
+        drawn,
+        rank,
+    };
     let k = step(bytes, at, due, c, text, marks);
     if k != 0 {
         return Found::Fault(k, at);

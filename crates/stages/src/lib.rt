@@ -18,7 +18,6 @@ ghost use Rattle.stages.specs.Passed.{PartOnePassed, FirstDicePassed};
 use laws::Found;
 use protocol::Due;
 use protocol::Parameters;
-use reader::Context;
 
 // ---- commands 02 and 03
 
@@ -37,12 +36,7 @@ pub fn ballot_faults(
     let mut j: usize = 0;
     while j < n {
         let at = layout::at_ballot(p, j);
-        let c = Context {
-            parameters: p,
-            drawn,
-            rank: 0,
-        };
-        let f = reader::command_fault(bytes, at, Due::Ballot(j), c, text, marks);
+        let f = reader::command_fault(bytes, at, Due::Ballot(j), p, drawn, 0, text, marks);
         let Found::Nothing = f else {
             return f;
         };
@@ -67,12 +61,7 @@ fn entry_faults(
     let mut i: usize = 0;
     while i < n {
         let at = layout::at_entry(p, l, i);
-        let c = Context {
-            parameters: p,
-            drawn,
-            rank: 0,
-        };
-        let f = reader::command_fault(bytes, at, Due::Entry(l, i), c, text, marks);
+        let f = reader::command_fault(bytes, at, Due::Entry(l, i), p, drawn, 0, text, marks);
         let Found::Nothing = f else {
             return f;
         };
@@ -154,12 +143,7 @@ fn first_dice_fault(
 {
     let at = layout::at_first_dice(p);
     let text = dice_text(bytes, at, drawn, prefix);
-    let c = Context {
-        parameters: p,
-        drawn,
-        rank: 0,
-    };
-    reader::command_fault(bytes, at, Due::FirstDice, c, &text, marks)
+    reader::command_fault(bytes, at, Due::FirstDice, p, drawn, 0, &text, marks)
 }
 
 // The links of one compared list, with its row of marks; `rank` compared lists come before.
@@ -179,12 +163,7 @@ fn link_faults(
     let mut j: usize = 0;
     while j < n {
         let at = layout::at_link(p, rank, j);
-        let c = Context {
-            parameters: p,
-            drawn,
-            rank,
-        };
-        let f = reader::command_fault(bytes, at, Due::Link(l, j), c, text, &marks);
+        let f = reader::command_fault(bytes, at, Due::Link(l, j), p, drawn, rank, text, &marks);
         let Found::Nothing = f else {
             return f;
         };

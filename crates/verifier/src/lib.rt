@@ -13,7 +13,6 @@ use laws::Found;
 use protocol::Due;
 use protocol::Parameters;
 use protocol::Verdict;
-use reader::Context;
 
 // ---- the first command
 
@@ -38,12 +37,7 @@ fn first_command_fault(bytes: &[u8], drawn: bool, text: &[u8; 86], marks: &[bool
         ballots: 0,
         compared: 0,
     };
-    let c = Context {
-        parameters: none,
-        drawn,
-        rank: 0,
-    };
-    reader::command_fault(bytes, 0, Due::First, c, text, marks)
+    reader::command_fault(bytes, 0, Due::First, none, drawn, 0, text, marks)
 }
 
 // ---- the whole record

@@ -9,11 +9,6 @@ use Rattle.closing.proofs.half_faults.Tie as tie
 at-ballot-half-requires : tie.Need-at-ballot-half-requires
 at-ballot-half-requires c κs = let s = c .before in (s .pre .0 .dice .few, omega arith)
 
-command-fault-requires : tie.Need-command-fault-requires
-command-fault-requires c κs =
-    let s = c .before .before in
-    (c .at-ballot-half .ensures .0, record { few = s .pre .0 .dice .few; ballot = s .pre .1; text-is = s .pre .0 .text-is })
-
 returns : tie.Need-returns
 unfolding halfFaults
 returns c = then-fault _ _ (c .before .before .command-fault .ensures) (c .enum-told2 .given .1)
@@ -32,7 +27,7 @@ half-faults-spec =
     tie.close
     (tie.spec
     at-ballot-half-requires
-    command-fault-requires
+    (λ c κs. search needs)
     (λ c. search needs)
     (λ c. search needs)
     returns

@@ -48,7 +48,7 @@ unfolding linkPlace
 place c = let s = c .before .before .before .before in c .at-link .ensures .0 ∙ ap (λ (k : ℕ). atLink (s .args .p) k (c .before .before .loop .j)) (s .pre .1)
 
 command-fault-requires : tie.Need-command-fault-requires Inv-loop μ-loop
-command-fault-requires c κs = (place (c .before), record { few = c .before .before .before .before .before .pre .0 .few .ballots; marked = c .before .before .before .loop .inv .3 })
+command-fault-requires c κs = (place (c .before), search needs)
 
 returns : tie.Need-returns Inv-loop μ-loop
 unfolding linkFaults
