@@ -8,7 +8,7 @@ use protocol::Due;
 use protocol::Parameters;
 
 // What a command is judged by beside the record: the parameters, whether mask and sides are to be the drawn ones, and how many compared
-// lists come before that of a list half. `rank` is read for a list half only; other commands do not look at it.
+// lists come before that of a list half, `rank`, which no other command looks at.
 struct Context {
     parameters: Parameters,
     drawn: bool,
@@ -162,7 +162,7 @@ fn step(bytes: &[u8], at: usize, due: Due, c: Context, text: &[u8; 86], marks: &
 }
 
 // What is found of the due command at a place: the number of the first rule that it breaks with the place where the command starts, or
-// nothing.
+// nothing. `rank` is looked at for a list half only.
 pub fn command_fault(
     bytes: &[u8],
     at: usize,
