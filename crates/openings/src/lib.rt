@@ -29,7 +29,8 @@ fn numbers_below(bytes: &[u8], at: usize, k: usize, modulus: u32) -> bool
     true
 }
 
-// Whether k openings, one behind the other, give the commitments that stand `step` bytes apart from `posted` on.
+// Whether k openings, one behind the other, give the commitments that stand `step` bytes apart from `posted` on; for any places, since a
+// commitment does not depend on its place (`commitment` in `Terms`).
 fn openings_give(bytes: &[u8], at: usize, posted: usize, step: usize, k: usize) -> bool
     requires { ⌜ Openings (now bytes) at posted step k ⌝ }
     ensures { λ r. ⌜ ((place : ℕ → Place) → r ≡ every (λ i. gives (place i) (openingAt (now (bytes .entry)) at i) (piece (now (bytes .entry)) (posted + step * i) 32)) k) ⌝ }
