@@ -4,6 +4,7 @@ ghost use mathlib.Core.List.{_++_};
 ghost use Prim.Native.Nat.{_+_, _*_, _≤_, _<_};
 ghost use lib.ListN.{length};
 ghost use Rattle.laws.specs.Chunks.{chunks};
+ghost use Rattle.laws.specs.Lent.{before, after};
 ghost use Rattle.laws.specs.Writing.{Went};
 ghost use Rattle.protocol.specs.Layout as places;
 ghost use Rattle.protocol.specs.Record.{firstCommand};
@@ -26,7 +27,7 @@ fn put_ballots(
     keys: &[u8],
 ) -> usize
     requires { ⌜ BallotsReady modulus (length (now ids)) (now rows) (now numbers) × ((192 * length (now ids) ≤ length (now keys)) × (at + length (now ids) * 197 ≤ length (now out))) ⌝ }
-    ensures { λ r. ⌜ Went (now (out .entry)) at (ballotsIn modulus (length (now (ids .entry))) (now (ids .entry)) (now (rows .entry)) (now (numbers .entry)) (now (keys .entry)) (length (now (ids .entry)))) (now (out .exit)) r ⌝ }
+    ensures { λ r. ⌜ Went (before out) at (ballotsIn modulus (length (before ids)) (before ids) (before rows) (before numbers) (before keys) (length (before ids))) (after out) r ⌝ }
 {
     let n = ids.len();
     let mut next = at;
@@ -53,7 +54,7 @@ fn put_entries(
     keys: &[u8],
 ) -> usize
     requires { ⌜ ListReady modulus n (now mixed) (now numbers) l × ((192 * n + 192 * (l * n + n) ≤ length (now keys)) × (at + n * 196 ≤ length (now out))) ⌝ }
-    ensures { λ r. ⌜ Went (now (out .entry)) at (entriesIn modulus n (now (mixed .entry)) (now (numbers .entry)) (now (keys .entry)) l n) (now (out .exit)) r ⌝ }
+    ensures { λ r. ⌜ Went (before out) at (entriesIn modulus n (before mixed) (before numbers) (before keys) l n) (after out) r ⌝ }
 {
     let mut next = at;
     let mut i: usize = 0;
@@ -79,7 +80,7 @@ fn put_lists(
     keys: &[u8],
 ) -> usize
     requires { ⌜ BoardReady (p .modulus) (p .ballots) (places.lists p) (now ids) (now rows) (now mixed) (now numbers) (now keys) × (at + places.lists p * (p .ballots * 196) ≤ length (now out)) ⌝ }
-    ensures { λ r. ⌜ Went (now (out .entry)) at (chunks (λ l. entriesIn (p .modulus) (p .ballots) (now (mixed .entry)) (now (numbers .entry)) (now (keys .entry)) l (p .ballots)) (places.lists p)) (now (out .exit)) r ⌝ }
+    ensures { λ r. ⌜ Went (before out) at (chunks (λ l. entriesIn (p .modulus) (p .ballots) (before mixed) (before numbers) (before keys) l (p .ballots)) (places.lists p)) (after out) r ⌝ }
 {
     let lists = 2 * p.compared;
     let mut next = at;
@@ -102,7 +103,7 @@ fn write_rows(
     keys: &[u8],
 )
     requires { ⌜ BoardReady (p .modulus) (p .ballots) (places.lists p) (now ids) (now rows) (now mixed) (now numbers) (now keys) × (length (now out) ≡ places.partOneLength p) ⌝ }
-    ensures { λ _. ⌜ now (out .exit) ≡ firstCommand p ++ (ballotsIn (p .modulus) (p .ballots) (now (ids .entry)) (now (rows .entry)) (now (numbers .entry)) (now (keys .entry)) (p .ballots) ++ chunks (λ l. entriesIn (p .modulus) (p .ballots) (now (mixed .entry)) (now (numbers .entry)) (now (keys .entry)) l (p .ballots)) (places.lists p)) ⌝ }
+    ensures { λ _. ⌜ after out ≡ firstCommand p ++ (ballotsIn (p .modulus) (p .ballots) (before ids) (before rows) (before numbers) (before keys) (p .ballots) ++ chunks (λ l. entriesIn (p .modulus) (p .ballots) (before mixed) (before numbers) (before keys) l (p .ballots)) (places.lists p)) ⌝ }
 {
     let first = writers::put_first(out, 0, p);
     let next = put_ballots(out, first, p.modulus, ids, rows, numbers, keys);
@@ -122,7 +123,7 @@ fn write_in(
     out: &mut [u8],
 )
     requires { ⌜ Passed (given (p .modulus) (p .ballots) (p .compared) (now ids) (now votes) (now numbers) (now permutations) (now keys)) × ((length (now rows) ≡ 3 * p .ballots) × ((length (now mixed) ≡ places.lists p * (3 * p .ballots)) × (length (now out) ≡ places.partOneLength p))) ⌝ }
-    ensures { λ _. ⌜ now (out .exit) ≡ firstPart (given (p .modulus) (p .ballots) (p .compared) (now (ids .entry)) (now (votes .entry)) (now (numbers .entry)) (now (permutations .entry)) (now (keys .entry))) ⌝ }
+    ensures { λ _. ⌜ after out ≡ firstPart (given (p .modulus) (p .ballots) (p .compared) (before ids) (before votes) (before numbers) (before permutations) (before keys)) ⌝ }
 {
     mixing::fill_rows(p.modulus, votes, numbers, rows);
     let lists = 2 * p.compared;
@@ -151,7 +152,7 @@ fn write(
     out: &mut [u8],
 )
     requires { ⌜ Passed (given modulus ballots compared (now ids) (now votes) (now numbers) (now permutations) (now keys)) × (length (now out) ≡ places.partOneLength (parametersFor (given modulus ballots compared (now ids) (now votes) (now numbers) (now permutations) (now keys)))) ⌝ }
-    ensures { λ _. ⌜ now (out .exit) ≡ firstPart (given modulus ballots compared (now (ids .entry)) (now (votes .entry)) (now (numbers .entry)) (now (permutations .entry)) (now (keys .entry))) ⌝ }
+    ensures { λ _. ⌜ after out ≡ firstPart (given modulus ballots compared (before ids) (before votes) (before numbers) (before permutations) (before keys)) ⌝ }
 {
     let p = Parameters {
         modulus,
@@ -187,8 +188,8 @@ pub fn part_one(
     keys: &[u8],
     out: &mut [u8],
 ) -> Written
-    ensures answer { λ r. ⌜ r ≡ writtenOf (partOneRefusal (given modulus ballots compared (now (ids .entry)) (now (votes .entry)) (now (numbers .entry)) (now (permutations .entry)) (now (keys .entry))) (length (now (out .entry)))) ⌝ }
-    ensures output { λ _. ⌜ now (out .exit) ≡ afterwards (partOneRefusal (given modulus ballots compared (now (ids .entry)) (now (votes .entry)) (now (numbers .entry)) (now (permutations .entry)) (now (keys .entry))) (length (now (out .entry)))) (now (out .entry)) (firstPart (given modulus ballots compared (now (ids .entry)) (now (votes .entry)) (now (numbers .entry)) (now (permutations .entry)) (now (keys .entry)))) ⌝ }
+    ensures answer { λ r. ⌜ r ≡ writtenOf (partOneRefusal (given modulus ballots compared (before ids) (before votes) (before numbers) (before permutations) (before keys)) (length (before out))) ⌝ }
+    ensures output { λ _. ⌜ after out ≡ afterwards (partOneRefusal (given modulus ballots compared (before ids) (before votes) (before numbers) (before permutations) (before keys)) (length (before out))) (before out) (firstPart (given modulus ballots compared (before ids) (before votes) (before numbers) (before permutations) (before keys))) ⌝ }
 {
     let k = refusals::part_one(
         modulus,

@@ -3,6 +3,7 @@ ghost use mathlib.Core.Path.{_≡_};
 ghost use mathlib.Core.List.{_++_};
 ghost use Prim.Native.Nat.{_+_, _*_, _%_, _≤_, _<_};
 ghost use lib.ListN.{length};
+ghost use Rattle.laws.specs.Lent.{before, after};
 ghost use Rattle.laws.specs.Sums.{oneIf};
 ghost use Rattle.laws.specs.Tests.{below};
 ghost use Rattle.laws.specs.Writing.{Went};
@@ -24,7 +25,7 @@ fn hex_digit(v: u8) -> u8
 // Writes the hexadecimal digits of s from a place on, and answers the next place.
 fn put_hex(out: &mut [u8], at: usize, s: &[u8]) -> usize
     requires { ⌜ at + 2 * length (now s) ≤ length (now out) ⌝ }
-    ensures { λ r. ⌜ Went (now (out .entry)) at (hexDigits (now (s .entry))) (now (out .exit)) r ⌝ }
+    ensures { λ r. ⌜ Went (before out) at (hexDigits (before s)) (after out) r ⌝ }
 {
     let mut next = at;
     let mut i: usize = 0;
@@ -41,7 +42,7 @@ fn put_hex(out: &mut [u8], at: usize, s: &[u8]) -> usize
 // Writes x in decimal from a place on, and answers the next place: all digits but the last, then the last.
 pub fn put_decimal(out: &mut [u8], at: usize, x: u32) -> usize
     requires { ⌜ at + length (decimal x) ≤ length (now out) ⌝ }
-    ensures { λ r. ⌜ Went (now (out .entry)) at (decimal x) (now (out .exit)) r ⌝ }
+    ensures { λ r. ⌜ Went (before out) at (decimal x) (after out) r ⌝ }
 {
     if x < 10 {
         return wire::put1(out, at, 48 + x);
@@ -53,7 +54,7 @@ pub fn put_decimal(out: &mut [u8], at: usize, x: u32) -> usize
 // Q of the dice, from the sponge that has taken every record byte before the dice command.
 pub fn text(dice: &[u8], prefix: sha3::Sponge) -> [u8; 86]
     requires { ⌜ (length (now dice) ≡ 30) × (prefix .fill < 144) ⌝ }
-    ensures { λ r. ⌜ r ≡ textFrom (now (dice .entry)) prefix ⌝ }
+    ensures { λ r. ⌜ r ≡ textFrom (before dice) prefix ⌝ }
 {
     let mut hash = [0u8; 28];
     sha3::finish(prefix, 144, &mut hash);
@@ -66,7 +67,7 @@ pub fn text(dice: &[u8], prefix: sha3::Sponge) -> [u8; 86]
 // Q of the dice, where the record before the dice command lies in two parts.
 pub fn text_of(dice: &[u8], one: &[u8], two: &[u8]) -> [u8; 86]
     requires { ⌜ length (now dice) ≡ 30 ⌝ }
-    ensures { λ r. ⌜ r ≡ challenge (now (dice .entry)) (now (one .entry) ++ now (two .entry)) ⌝ }
+    ensures { λ r. ⌜ r ≡ challenge (before dice) (before one ++ before two) ⌝ }
 {
     let s = sha3::absorb(sha3::start(), 144, one);
     let t = sha3::absorb(s, 144, two);
@@ -75,7 +76,7 @@ pub fn text_of(dice: &[u8], one: &[u8], two: &[u8]) -> [u8; 86]
 
 // The hash of a number in decimal, Q and a last character.
 fn draw_hash(i: u32, q: &[u8; 86], last: u8, out: &mut [u8; 28])
-    ensures { λ _. ⌜ now (out .exit) ≡ drawHash i (now (q .entry)) last ⌝ }
+    ensures { λ _. ⌜ after out ≡ drawHash i (before q) last ⌝ }
 {
     let mut number = [0u8; 10];
     let n = put_decimal(&mut number, 0, i);
@@ -89,7 +90,7 @@ fn draw_hash(i: u32, q: &[u8; 86], last: u8, out: &mut [u8; 28])
 // 1 where list i is chosen, the first of so many lists of which some are left to choose, and else 0.
 fn list_chosen(q: &[u8; 86], i: u32, lists: u32, left: u32) -> u32
     requires { ⌜ 0 < lists ⌝ }
-    ensures { λ r. ⌜ (r ≡ oneIf (below (listHash (now (q .entry)) i % lists) left)) × ((r < 2) × (r ≤ left)) ⌝ }
+    ensures { λ r. ⌜ (r ≡ oneIf (below (listHash (before q) i % lists) left)) × ((r < 2) × (r ≤ left)) ⌝ }
 {
     let mut hash = [0u8; 28];
     draw_hash(i, q, b'2', &mut hash);
@@ -103,7 +104,7 @@ fn list_chosen(q: &[u8; 86], i: u32, lists: u32, left: u32) -> u32
 // The mask drawn from the first Q: so many lists are compared, of twice as many.
 pub fn drawn_mask(q: &[u8; 86], compared: usize) -> u32
     requires { ⌜ compared ≤ 12 ⌝ }
-    ensures { λ r. ⌜ (r ≡ drawnMask compared (now (q .entry))) × (r < 16777216) ⌝ }
+    ensures { λ r. ⌜ (r ≡ drawnMask compared (before q)) × (r < 16777216) ⌝ }
 {
     let mut left = compared as u32;
     let lists = 2 * left;
@@ -121,7 +122,7 @@ pub fn drawn_mask(q: &[u8; 86], compared: usize) -> u32
 // The side of a ballot drawn from the second Q.
 pub fn drawn_side(q: &[u8; 86], ballot: usize) -> u32
     requires { ⌜ ballot < 4096 ⌝ }
-    ensures { λ r. ⌜ (r ≡ drawnSide (now (q .entry)) ballot) × (r < 2) ⌝ }
+    ensures { λ r. ⌜ (r ≡ drawnSide (before q) ballot) × (r < 2) ⌝ }
 {
     let mut hash = [0u8; 28];
     draw_hash((ballot + 1) as u32, q, b'1', &mut hash);

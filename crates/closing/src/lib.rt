@@ -3,6 +3,7 @@
 ghost use mathlib.Core.Path.{_≡_};
 ghost use Prim.Native.Nat.{_≤_, _<_};
 ghost use Rattle.laws.specs.Faults.{first, _then_};
+ghost use Rattle.laws.specs.Lent.{before};
 ghost use Rattle.laws.specs.Masks.{setBefore, clearBefore};
 ghost use Rattle.protocol.specs.Layout as places;
 ghost use Rattle.protocol.specs.Record.{maskOf};
@@ -29,7 +30,7 @@ fn half_if_compared(
     marks: &[bool; 1024],
 ) -> Found
     requires { ⌜ HalfPassed drawn p (now bytes) mask j × (l < places.lists p) × (rank ≡ setBefore (maskOf p (now bytes)) l) × (rank ≤ 24) ⌝ }
-    ensures { λ r. ⌜ r ≡ ifCompared p (now (bytes .entry)) l (found drawn p (now (bytes .entry)) (Due.ListHalf l j)) ⌝ }
+    ensures { λ r. ⌜ r ≡ ifCompared p (before bytes) l (found drawn p (before bytes) (Due.ListHalf l j)) ⌝ }
 {
     if (mask >> (l as u32)) % 2 == 0 {
         return Found::Nothing;
@@ -49,7 +50,7 @@ fn list_half_faults(
     marks: &[bool; 1024],
 ) -> Found
     requires { ⌜ HalfPassed drawn p (now bytes) mask j ⌝ }
-    ensures { λ r. ⌜ r ≡ listHalfFaults drawn p (now (bytes .entry)) j ⌝ }
+    ensures { λ r. ⌜ r ≡ listHalfFaults drawn p (before bytes) j ⌝ }
 {
     let all = layout::lists(p);
     let mut rank: usize = 0;
@@ -76,7 +77,7 @@ fn half_faults(
     marks: &[bool; 1024],
 ) -> Found
     requires { ⌜ HalvesKnown drawn p (now bytes) mask (now text) × (j < p .ballots) ⌝ }
-    ensures { λ r. ⌜ r ≡ halfFaults drawn p (now (bytes .entry)) j ⌝ }
+    ensures { λ r. ⌜ r ≡ halfFaults drawn p (before bytes) j ⌝ }
 {
     let at = layout::at_ballot_half(p, j);
     let f = reader::command_fault(bytes, at, Due::BallotHalf(j), p, drawn, 0, text, marks);
@@ -96,7 +97,7 @@ fn all_half_faults(
     marks: &[bool; 1024],
 ) -> Found
     requires { ⌜ HalvesKnown drawn p (now bytes) mask (now text) ⌝ }
-    ensures { λ r. ⌜ r ≡ first (halfFaults drawn p (now (bytes .entry))) (p .ballots) ⌝ }
+    ensures { λ r. ⌜ r ≡ first (halfFaults drawn p (before bytes)) (p .ballots) ⌝ }
 {
     let n = p.ballots;
     let mut j: usize = 0;
@@ -121,7 +122,7 @@ fn vote_faults(
     marks: &[bool; 1024],
 ) -> Found
     requires { ⌜ Few p ⌝ }
-    ensures { λ r. ⌜ r ≡ voteFaults drawn p (now (bytes .entry)) (p .ballots) ⌝ }
+    ensures { λ r. ⌜ r ≡ voteFaults drawn p (before bytes) (p .ballots) ⌝ }
 {
     let n = p.ballots;
     let mut i: usize = 0;
@@ -147,7 +148,7 @@ fn full_faults(
     marks: &[bool; 1024],
 ) -> Found
     requires { ⌜ VotesPassed drawn p (now bytes) × (l < places.lists p) × (rank ≡ clearBefore (maskOf p (now bytes)) l) × (rank ≤ 24) ⌝ }
-    ensures { λ r. ⌜ r ≡ fullFaults drawn p (now (bytes .entry)) l ⌝ }
+    ensures { λ r. ⌜ r ≡ fullFaults drawn p (before bytes) l ⌝ }
 {
     let n = p.ballots;
     let mut i: usize = 0;
@@ -183,7 +184,7 @@ fn full_if_opened(
     marks: &[bool; 1024],
 ) -> Found
     requires { ⌜ VotesPassed drawn p (now bytes) × (mask ≡ maskOf p (now bytes)) × (l < places.lists p) × (rank ≡ clearBefore (maskOf p (now bytes)) l) × (rank ≤ 24) ⌝ }
-    ensures { λ r. ⌜ r ≡ ifOpened p (now (bytes .entry)) l (fullFaults drawn p (now (bytes .entry)) l) ⌝ }
+    ensures { λ r. ⌜ r ≡ ifOpened p (before bytes) l (fullFaults drawn p (before bytes) l) ⌝ }
 {
     if (mask >> (l as u32)) % 2 == 1 {
         return Found::Nothing;
@@ -201,7 +202,7 @@ fn opened_faults(
     marks: &[bool; 1024],
 ) -> Found
     requires { ⌜ VotesPassed drawn p (now bytes) × (mask ≡ maskOf p (now bytes)) ⌝ }
-    ensures { λ r. ⌜ r ≡ first (λ l. ifOpened p (now (bytes .entry)) l (fullFaults drawn p (now (bytes .entry)) l)) (places.lists p) ⌝ }
+    ensures { λ r. ⌜ r ≡ first (λ l. ifOpened p (before bytes) l (fullFaults drawn p (before bytes) l)) (places.lists p) ⌝ }
 {
     let all = layout::lists(p);
     let mut rank: usize = 0;
@@ -226,7 +227,7 @@ fn end_faults(
     marks: &[bool; 1024],
 ) -> Found
     requires { ⌜ Few p ⌝ }
-    ensures { λ r. ⌜ r ≡ found drawn p (now (bytes .entry)) Due.End then trailingFault p (now (bytes .entry)) ⌝ }
+    ensures { λ r. ⌜ r ≡ found drawn p (before bytes) Due.End then trailingFault p (before bytes) ⌝ }
 {
     let at = layout::at_end(p);
     let f = reader::command_fault(bytes, at, Due::End, p, drawn, 0, text, marks);
@@ -249,7 +250,7 @@ fn closing_faults(
     marks: &[bool; 1024],
 ) -> Found
     requires { ⌜ FirstDicePassed drawn p (now bytes) × (mask ≡ maskOf p (now bytes)) ⌝ }
-    ensures { λ r. ⌜ r ≡ voteFaults drawn p (now (bytes .entry)) (p .ballots) then (first (λ l. ifOpened p (now (bytes .entry)) l (fullFaults drawn p (now (bytes .entry)) l)) (places.lists p) then (found drawn p (now (bytes .entry)) Due.End then trailingFault p (now (bytes .entry)))) ⌝ }
+    ensures { λ r. ⌜ r ≡ voteFaults drawn p (before bytes) (p .ballots) then (first (λ l. ifOpened p (before bytes) l (fullFaults drawn p (before bytes) l)) (places.lists p) then (found drawn p (before bytes) Due.End then trailingFault p (before bytes))) ⌝ }
 {
     let v = vote_faults(bytes, p, drawn, text, marks);
     let Found::Nothing = v else {
@@ -274,7 +275,7 @@ pub fn part_three_faults(
     marks: &[bool; 1024],
 ) -> Found
     requires { ⌜ PartTwoPassed drawn p (now bytes) prefix ⌝ }
-    ensures { λ r. ⌜ r ≡ partThreeFaults drawn p (now (bytes .entry)) ⌝ }
+    ensures { λ r. ⌜ r ≡ partThreeFaults drawn p (before bytes) ⌝ }
 {
     let at = layout::at_second_dice(p);
     let f = reader::command_fault(bytes, at, Due::SecondDice, p, drawn, 0, text, marks);

@@ -3,6 +3,7 @@ ghost use mathlib.Core.Path.{_≡_};
 ghost use Prim.Native.Nat.{_+_, _≤_};
 ghost use lib.ListN.{length};
 ghost use Rattle.laws.specs.Chunks.{piece};
+ghost use Rattle.laws.specs.Lent.{before, after};
 ghost use Rattle.laws.specs.Writing.{Went};
 ghost use Rattle.protocol.specs.Terms.{Place, opening, commitment};
 ghost use Rattle.protocol.specs.Rules as rules;
@@ -10,7 +11,7 @@ ghost use Rattle.protocol.specs.Rules as rules;
 // Whether the opening at one place of the bytes gives the commitment posted at another.
 pub fn gives(bytes: &[u8], opening_at: usize, posted_at: usize) -> bool
     requires { ⌜ («opening_at» + 36 ≤ length (now bytes)) × («posted_at» + 32 ≤ length (now bytes)) ⌝ }
-    ensures { λ r. ⌜ ((place : Place) → r ≡ rules.gives place (piece (now (bytes .entry)) «opening_at» 36) (piece (now (bytes .entry)) «posted_at» 32)) ⌝ }
+    ensures { λ r. ⌜ ((place : Place) → r ≡ rules.gives place (piece (before bytes) «opening_at» 36) (piece (before bytes) «posted_at» 32)) ⌝ }
 {
     let opening_end = opening_at + 36;
     let posted_end = posted_at + 32;
@@ -22,7 +23,7 @@ pub fn gives(bytes: &[u8], opening_at: usize, posted_at: usize) -> bool
 // Writes the opening of a key and a number at a place, and answers the next place.
 pub fn put_opening(out: &mut [u8], at: usize, key: &[u8], x: u32) -> usize
     requires { ⌜ (length (now key) ≡ 32) × (at + 36 ≤ length (now out)) ⌝ }
-    ensures { λ r. ⌜ Went (now (out .entry)) at (opening (now (key .entry)) x) (now (out .exit)) r ⌝ }
+    ensures { λ r. ⌜ Went (before out) at (opening (before key) x) (after out) r ⌝ }
 {
     let next = wire::copy(out, at, key);
     wire::put4(out, next, x)
@@ -32,7 +33,7 @@ pub fn put_opening(out: &mut [u8], at: usize, key: &[u8], x: u32) -> usize
 // the digest goes straight to its place.
 pub fn put_commitment(out: &mut [u8], at: usize, key: &[u8], x: u32) -> usize
     requires { ⌜ (length (now key) ≡ 32) × (at + 32 ≤ length (now out)) ⌝ }
-    ensures { λ r. ⌜ ((place : Place) → Went (now (out .entry)) at (commitment place (opening (now (key .entry)) x)) (now (out .exit)) r) ⌝ }
+    ensures { λ r. ⌜ ((place : Place) → Went (before out) at (commitment place (opening (before key) x)) (after out) r) ⌝ }
 {
     let mut number = [0u8; 4];
     wire::put4(&mut number, 0, x);

@@ -4,6 +4,7 @@ ghost use mathlib.Core.List.{[], _++_};
 ghost use Prim.Native.Nat.{_+_, _*_, _≤_, _<_};
 ghost use lib.ListN.{length};
 ghost use Rattle.laws.specs.Chunks.{chunks};
+ghost use Rattle.laws.specs.Lent.{before, after};
 ghost use Rattle.laws.specs.Masks.{bit};
 ghost use Rattle.laws.specs.Tests.{choose};
 ghost use Rattle.laws.specs.Writing.{Went};
@@ -31,7 +32,7 @@ fn put_links(
     numbers: &[u32],
 ) -> usize
     requires { ⌜ LinksReady modulus n (now numbers) l × (PlacesReady n (now positions) l × (at + n * 10 ≤ length (now out))) ⌝ }
-    ensures { λ r. ⌜ Went (now (out .entry)) at (linksIn modulus n (now (positions .entry)) (now (numbers .entry)) l n) (now (out .exit)) r ⌝ }
+    ensures { λ r. ⌜ Went (before out) at (linksIn modulus n (before positions) (before numbers) l n) (after out) r ⌝ }
 {
     let mut next = at;
     let mut j: usize = 0;
@@ -56,7 +57,7 @@ fn put_if_compared(
     numbers: &[u32],
 ) -> usize
     requires { ⌜ LinksReady modulus n (now numbers) l × (PlacesReady n (now positions) l × (at + bit mask l * (n * 10) ≤ length (now out))) ⌝ }
-    ensures { λ r. ⌜ Went (now (out .entry)) at (choose (bit mask l) [] (linksIn modulus n (now (positions .entry)) (now (numbers .entry)) l n)) (now (out .exit)) r ⌝ }
+    ensures { λ r. ⌜ Went (before out) at (choose (bit mask l) [] (linksIn modulus n (before positions) (before numbers) l n)) (after out) r ⌝ }
 {
     if (mask >> (l as u32)) % 2 == 0 {
         return at;
@@ -74,7 +75,7 @@ fn put_compared(
     numbers: &[u32],
 ) -> usize
     requires { ⌜ TwoReady p mask (now positions) (now numbers) × (at + p .compared * (p .ballots * 10) ≤ length (now out)) ⌝ }
-    ensures { λ r. ⌜ Went (now (out .entry)) at (chunks (λ l. choose (bit mask l) [] (linksIn (p .modulus) (p .ballots) (now (positions .entry)) (now (numbers .entry)) l (p .ballots))) (places.lists p)) (now (out .exit)) r ⌝ }
+    ensures { λ r. ⌜ Went (before out) at (chunks (λ l. choose (bit mask l) [] (linksIn (p .modulus) (p .ballots) (before positions) (before numbers) l (p .ballots))) (places.lists p)) (after out) r ⌝ }
 {
     let lists = 2 * p.compared;
     let mut next = at;
@@ -96,7 +97,7 @@ fn write_places(
     numbers: &[u32],
 )
     requires { ⌜ TwoReady p mask (now positions) (now numbers) × ((length (now dice) ≡ 30) × (length (now out) ≡ places.partTwoLength p)) ⌝ }
-    ensures { λ _. ⌜ now (out .exit) ≡ firstDiceCommand (now (dice .entry)) mask ++ chunks (λ l. choose (bit mask l) [] (linksIn (p .modulus) (p .ballots) (now (positions .entry)) (now (numbers .entry)) l (p .ballots))) (places.lists p) ⌝ }
+    ensures { λ _. ⌜ after out ≡ firstDiceCommand (before dice) mask ++ chunks (λ l. choose (bit mask l) [] (linksIn (p .modulus) (p .ballots) (before positions) (before numbers) l (p .ballots))) (places.lists p) ⌝ }
 {
     let next = writers::put_first_dice(out, 0, dice, mask);
     put_compared(out, next, p, mask, positions, numbers);
@@ -117,7 +118,7 @@ fn write(
     out: &mut [u8],
 )
     requires { ⌜ Writable (given modulus ballots compared (now ids) (now votes) (now numbers) (now permutations) (now keys)) (now dice) mask (length (now out)) ⌝ }
-    ensures { λ _. ⌜ now (out .exit) ≡ secondPart (given modulus ballots compared (now (ids .entry)) (now (votes .entry)) (now (numbers .entry)) (now (permutations .entry)) (now (keys .entry))) (now (dice .entry)) mask ⌝ }
+    ensures { λ _. ⌜ after out ≡ secondPart (given modulus ballots compared (before ids) (before votes) (before numbers) (before permutations) (before keys)) (before dice) mask ⌝ }
 {
     let p = Parameters {
         modulus,
@@ -146,8 +147,8 @@ pub fn part_two(
     mask: u32,
     out: &mut [u8],
 ) -> Written
-    ensures answer { λ r. ⌜ r ≡ writtenOf (partTwoRefusal (given modulus ballots compared (now (ids .entry)) (now (votes .entry)) (now (numbers .entry)) (now (permutations .entry)) (now (keys .entry))) (now (dice .entry)) mask (length (now (out .entry)))) ⌝ }
-    ensures output { λ _. ⌜ now (out .exit) ≡ afterwards (partTwoRefusal (given modulus ballots compared (now (ids .entry)) (now (votes .entry)) (now (numbers .entry)) (now (permutations .entry)) (now (keys .entry))) (now (dice .entry)) mask (length (now (out .entry)))) (now (out .entry)) (secondPart (given modulus ballots compared (now (ids .entry)) (now (votes .entry)) (now (numbers .entry)) (now (permutations .entry)) (now (keys .entry))) (now (dice .entry)) mask) ⌝ }
+    ensures answer { λ r. ⌜ r ≡ writtenOf (partTwoRefusal (given modulus ballots compared (before ids) (before votes) (before numbers) (before permutations) (before keys)) (before dice) mask (length (before out))) ⌝ }
+    ensures output { λ _. ⌜ after out ≡ afterwards (partTwoRefusal (given modulus ballots compared (before ids) (before votes) (before numbers) (before permutations) (before keys)) (before dice) mask (length (before out))) (before out) (secondPart (given modulus ballots compared (before ids) (before votes) (before numbers) (before permutations) (before keys)) (before dice) mask) ⌝ }
 {
     let k = refusals::part_two(
         modulus,
@@ -184,7 +185,7 @@ pub fn part_two(
 // The mask drawn from the dice and part one as lent.
 fn mask_of(compared: u32, dice: &[u8], one: &[u8]) -> u32
     requires { ⌜ (compared ≤ 12) × (length (now dice) ≡ 30) ⌝ }
-    ensures { λ r. ⌜ r ≡ drawnMask compared (drawing.challenge (now (dice .entry)) (now (one .entry))) ⌝ }
+    ensures { λ r. ⌜ r ≡ drawnMask compared (drawing.challenge (before dice) (before one)) ⌝ }
 {
     let text = challenge::text_of(dice, one, &one[..0]);
     challenge::drawn_mask(&text, compared as usize)
@@ -204,8 +205,8 @@ pub fn part_two_drawn(
     one: &[u8],
     out: &mut [u8],
 ) -> Written
-    ensures answer { λ r. ⌜ r ≡ writtenOf (partTwoDrawnRefusal (given modulus ballots compared (now (ids .entry)) (now (votes .entry)) (now (numbers .entry)) (now (permutations .entry)) (now (keys .entry))) (now (dice .entry)) (length (now (one .entry))) (length (now (out .entry)))) ⌝ }
-    ensures output { λ _. ⌜ now (out .exit) ≡ afterwards (partTwoDrawnRefusal (given modulus ballots compared (now (ids .entry)) (now (votes .entry)) (now (numbers .entry)) (now (permutations .entry)) (now (keys .entry))) (now (dice .entry)) (length (now (one .entry))) (length (now (out .entry)))) (now (out .entry)) (secondPart (given modulus ballots compared (now (ids .entry)) (now (votes .entry)) (now (numbers .entry)) (now (permutations .entry)) (now (keys .entry))) (now (dice .entry)) (maskFor (given modulus ballots compared (now (ids .entry)) (now (votes .entry)) (now (numbers .entry)) (now (permutations .entry)) (now (keys .entry))) (now (dice .entry)) (now (one .entry)))) ⌝ }
+    ensures answer { λ r. ⌜ r ≡ writtenOf (partTwoDrawnRefusal (given modulus ballots compared (before ids) (before votes) (before numbers) (before permutations) (before keys)) (before dice) (length (before one)) (length (before out))) ⌝ }
+    ensures output { λ _. ⌜ after out ≡ afterwards (partTwoDrawnRefusal (given modulus ballots compared (before ids) (before votes) (before numbers) (before permutations) (before keys)) (before dice) (length (before one)) (length (before out))) (before out) (secondPart (given modulus ballots compared (before ids) (before votes) (before numbers) (before permutations) (before keys)) (before dice) (maskFor (given modulus ballots compared (before ids) (before votes) (before numbers) (before permutations) (before keys)) (before dice) (before one))) ⌝ }
 {
     let k = refusals::part_two_drawn(
         modulus,
@@ -242,7 +243,7 @@ pub fn part_two_drawn(
 
 // Entry: the mask that part two draws, so that it can be handed to part three.
 pub fn draw(modulus: u32, ballots: u32, compared: u32, dice: &[u8], one: &[u8]) -> Draw
-    ensures { λ r. ⌜ r ≡ drawn (record { modulus = modulus; ballots = ballots; compared = compared }) (now (dice .entry)) (now (one .entry)) ⌝ }
+    ensures { λ r. ⌜ r ≡ drawn (record { modulus = modulus; ballots = ballots; compared = compared }) (before dice) (before one) ⌝ }
 {
     let k = refusals::draw(modulus, ballots, compared, dice, one.len());
     if k != 0 {

@@ -3,6 +3,7 @@ ghost use mathlib.Core.Path.{_≡_};
 ghost use mathlib.Core.List.{_++_};
 ghost use Prim.Native.Nat.{_≤_};
 ghost use lib.ListN.{length};
+ghost use Rattle.laws.specs.Lent.{before, after};
 ghost use Rattle.protocol.specs.Terms.{mostBallots};
 ghost use Rattle.protocol.specs.Drawing as drawing;
 ghost use Rattle.protocol.specs.Drawing.{drawnSides};
@@ -25,8 +26,8 @@ pub fn part_three(
     sides: &[u8],
     out: &mut [u8],
 ) -> Written
-    ensures answer { λ r. ⌜ r ≡ writtenOf (partThreeRefusal (given modulus ballots compared (now (ids .entry)) (now (votes .entry)) (now (numbers .entry)) (now (permutations .entry)) (now (keys .entry))) (now (dice .entry)) mask (now (sides .entry)) (length (now (out .entry)))) ⌝ }
-    ensures output { λ _. ⌜ now (out .exit) ≡ afterwards (partThreeRefusal (given modulus ballots compared (now (ids .entry)) (now (votes .entry)) (now (numbers .entry)) (now (permutations .entry)) (now (keys .entry))) (now (dice .entry)) mask (now (sides .entry)) (length (now (out .entry)))) (now (out .entry)) (thirdPart (given modulus ballots compared (now (ids .entry)) (now (votes .entry)) (now (numbers .entry)) (now (permutations .entry)) (now (keys .entry))) (now (dice .entry)) mask (now (sides .entry))) ⌝ }
+    ensures answer { λ r. ⌜ r ≡ writtenOf (partThreeRefusal (given modulus ballots compared (before ids) (before votes) (before numbers) (before permutations) (before keys)) (before dice) mask (before sides) (length (before out))) ⌝ }
+    ensures output { λ _. ⌜ after out ≡ afterwards (partThreeRefusal (given modulus ballots compared (before ids) (before votes) (before numbers) (before permutations) (before keys)) (before dice) mask (before sides) (length (before out))) (before out) (thirdPart (given modulus ballots compared (before ids) (before votes) (before numbers) (before permutations) (before keys)) (before dice) mask (before sides)) ⌝ }
 {
     let k = refusals::part_three(
         modulus,
@@ -65,7 +66,7 @@ pub fn part_three(
 // The sides drawn from the dice and parts one and two as lent.
 fn fill_sides(dice: &[u8], one: &[u8], two: &[u8], out: &mut [u8])
     requires { ⌜ (length (now dice) ≡ 30) × (length (now out) ≤ mostBallots) ⌝ }
-    ensures { λ _. ⌜ now (out .exit) ≡ drawnSides (length (now (out .entry))) (drawing.challenge (now (dice .entry)) (now (one .entry) ++ now (two .entry))) ⌝ }
+    ensures { λ _. ⌜ after out ≡ drawnSides (length (before out)) (drawing.challenge (before dice) (before one ++ before two)) ⌝ }
 {
     let text = challenge::text_of(dice, one, two);
     let mut j: usize = 0;
@@ -91,8 +92,8 @@ pub fn part_three_drawn(
     two: &[u8],
     out: &mut [u8],
 ) -> Written
-    ensures answer { λ r. ⌜ r ≡ writtenOf (partThreeDrawnRefusal (given modulus ballots compared (now (ids .entry)) (now (votes .entry)) (now (numbers .entry)) (now (permutations .entry)) (now (keys .entry))) (now (dice .entry)) mask (length (now (one .entry))) (length (now (two .entry))) (length (now (out .entry)))) ⌝ }
-    ensures output { λ _. ⌜ now (out .exit) ≡ afterwards (partThreeDrawnRefusal (given modulus ballots compared (now (ids .entry)) (now (votes .entry)) (now (numbers .entry)) (now (permutations .entry)) (now (keys .entry))) (now (dice .entry)) mask (length (now (one .entry))) (length (now (two .entry))) (length (now (out .entry)))) (now (out .entry)) (thirdPart (given modulus ballots compared (now (ids .entry)) (now (votes .entry)) (now (numbers .entry)) (now (permutations .entry)) (now (keys .entry))) (now (dice .entry)) mask (sidesFor (given modulus ballots compared (now (ids .entry)) (now (votes .entry)) (now (numbers .entry)) (now (permutations .entry)) (now (keys .entry))) (now (dice .entry)) (now (one .entry)) (now (two .entry)))) ⌝ }
+    ensures answer { λ r. ⌜ r ≡ writtenOf (partThreeDrawnRefusal (given modulus ballots compared (before ids) (before votes) (before numbers) (before permutations) (before keys)) (before dice) mask (length (before one)) (length (before two)) (length (before out))) ⌝ }
+    ensures output { λ _. ⌜ after out ≡ afterwards (partThreeDrawnRefusal (given modulus ballots compared (before ids) (before votes) (before numbers) (before permutations) (before keys)) (before dice) mask (length (before one)) (length (before two)) (length (before out))) (before out) (thirdPart (given modulus ballots compared (before ids) (before votes) (before numbers) (before permutations) (before keys)) (before dice) mask (sidesFor (given modulus ballots compared (before ids) (before votes) (before numbers) (before permutations) (before keys)) (before dice) (before one) (before two))) ⌝ }
 {
     let k = refusals::part_three_drawn(
         modulus,

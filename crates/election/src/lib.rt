@@ -5,6 +5,7 @@ ghost use mathlib.Core.Path.{_≡_};
 ghost use mathlib.Core.List.{_++_};
 ghost use Prim.Native.Nat.{ℕ, _+_};
 ghost use lib.ListN.{length};
+ghost use Rattle.laws.specs.Lent.{before, after};
 ghost use Rattle.laws.specs.Sorting.{sort};
 ghost use Rattle.protocol.specs.declared.Verdict.the-variants as verdicts;
 ghost use Rattle.protocol.specs.Rules.{rightShape};
@@ -40,7 +41,7 @@ fn refuse_second(
     one_len: usize,
     out_len: usize,
 ) -> u32
-    ensures { λ r. ⌜ r ≡ secondRefusal (given modulus ballots compared (now (ids .entry)) (now (votes .entry)) (now (numbers .entry)) (now (permutations .entry)) (now (keys .entry))) (choiceOf «mask_given» mask) (now (dice .entry)) «one_len» «out_len» ⌝ }
+    ensures { λ r. ⌜ r ≡ secondRefusal (given modulus ballots compared (before ids) (before votes) (before numbers) (before permutations) (before keys)) (choiceOf «mask_given» mask) (before dice) «one_len» «out_len» ⌝ }
 {
     if mask_given {
         return refusals::part_two(
@@ -89,7 +90,7 @@ fn refuse_third(
     two_len: usize,
     out_len: usize,
 ) -> u32
-    ensures { λ r. ⌜ ((mask : ℕ) → rightShape compared mask ≡ true → r ≡ thirdRefusal (given modulus ballots compared (now (ids .entry)) (now (votes .entry)) (now (numbers .entry)) (now (permutations .entry)) (now (keys .entry))) (choiceOf «sides_given» (now (sides .entry))) (now (dice .entry)) mask «one_len» «two_len» «out_len») ⌝ }
+    ensures { λ r. ⌜ ((mask : ℕ) → rightShape compared mask ≡ true → r ≡ thirdRefusal (given modulus ballots compared (before ids) (before votes) (before numbers) (before permutations) (before keys)) (choiceOf «sides_given» (before sides)) (before dice) mask «one_len» «two_len» «out_len») ⌝ }
 {
     if sides_given {
         return refusals::part_three_shaped(
@@ -145,7 +146,7 @@ fn refuse(
     three_len: usize,
     joined_len: usize,
 ) -> u32
-    ensures { λ r. ⌜ r ≡ electionRefusal (given modulus ballots compared (now (ids .entry)) (now (votes .entry)) (now (numbers .entry)) (now (permutations .entry)) (now (keys .entry))) (choiceOf «mask_given» mask) (now («first_dice» .entry)) (choiceOf «sides_given» (now (sides .entry))) (now («second_dice» .entry)) «one_len» «two_len» «three_len» «joined_len» ⌝ }
+    ensures { λ r. ⌜ r ≡ electionRefusal (given modulus ballots compared (before ids) (before votes) (before numbers) (before permutations) (before keys)) (choiceOf «mask_given» mask) (before «first_dice») (choiceOf «sides_given» (before sides)) (before «second_dice») «one_len» «two_len» «three_len» «joined_len» ⌝ }
 {
     let first = refusals::part_one(
         modulus,
@@ -221,8 +222,8 @@ fn second(
     two: &mut [u8],
 ) -> u32
     requires { ⌜ secondRefusal (given modulus ballots compared (now ids) (now votes) (now numbers) (now permutations) (now keys)) (choiceOf «mask_given» mask) (now dice) (length (now one)) (length (now two)) ≡ 0 ⌝ }
-    ensures mask { λ r. ⌜ r ≡ maskBy (given modulus ballots compared (now (ids .entry)) (now (votes .entry)) (now (numbers .entry)) (now (permutations .entry)) (now (keys .entry))) (choiceOf «mask_given» mask) (now (dice .entry)) (now (one .entry)) ⌝ }
-    ensures output { λ _. ⌜ now (two .exit) ≡ secondPart (given modulus ballots compared (now (ids .entry)) (now (votes .entry)) (now (numbers .entry)) (now (permutations .entry)) (now (keys .entry))) (now (dice .entry)) (maskBy (given modulus ballots compared (now (ids .entry)) (now (votes .entry)) (now (numbers .entry)) (now (permutations .entry)) (now (keys .entry))) (choiceOf «mask_given» mask) (now (dice .entry)) (now (one .entry))) ⌝ }
+    ensures mask { λ r. ⌜ r ≡ maskBy (given modulus ballots compared (before ids) (before votes) (before numbers) (before permutations) (before keys)) (choiceOf «mask_given» mask) (before dice) (before one) ⌝ }
+    ensures output { λ _. ⌜ after two ≡ secondPart (given modulus ballots compared (before ids) (before votes) (before numbers) (before permutations) (before keys)) (before dice) (maskBy (given modulus ballots compared (before ids) (before votes) (before numbers) (before permutations) (before keys)) (choiceOf «mask_given» mask) (before dice) (before one)) ⌝ }
 {
     if mask_given {
         comparison::part_two(
@@ -278,7 +279,7 @@ fn third(
     three: &mut [u8],
 )
     requires { ⌜ thirdRefusal (given modulus ballots compared (now ids) (now votes) (now numbers) (now permutations) (now keys)) (choiceOf «sides_given» (now sides)) (now dice) mask (length (now one)) (length (now two)) (length (now three)) ≡ 0 ⌝ }
-    ensures { λ _. ⌜ now (three .exit) ≡ thirdPart (given modulus ballots compared (now (ids .entry)) (now (votes .entry)) (now (numbers .entry)) (now (permutations .entry)) (now (keys .entry))) (now (dice .entry)) mask (sidesBy (given modulus ballots compared (now (ids .entry)) (now (votes .entry)) (now (numbers .entry)) (now (permutations .entry)) (now (keys .entry))) (choiceOf «sides_given» (now (sides .entry))) (now (dice .entry)) (now (one .entry)) (now (two .entry))) ⌝ }
+    ensures { λ _. ⌜ after three ≡ thirdPart (given modulus ballots compared (before ids) (before votes) (before numbers) (before permutations) (before keys)) (before dice) mask (sidesBy (given modulus ballots compared (before ids) (before votes) (before numbers) (before permutations) (before keys)) (choiceOf «sides_given» (before sides)) (before dice) (before one) (before two)) ⌝ }
 {
     if sides_given {
         disclosure::part_three(
@@ -317,7 +318,7 @@ fn third(
 // The three buffers, joined in order.
 fn join(one: &[u8], two: &[u8], three: &[u8], joined: &mut [u8])
     requires { ⌜ length (now joined) ≡ length (now one) + length (now two) + length (now three) ⌝ }
-    ensures { λ _. ⌜ now (joined .exit) ≡ now (one .entry) ++ (now (two .entry) ++ now (three .entry)) ⌝ }
+    ensures { λ _. ⌜ after joined ≡ before one ++ (before two ++ before three) ⌝ }
 {
     let a = wire::copy(joined, 0, one);
     let b = wire::copy(joined, a, two);
@@ -346,10 +347,10 @@ fn write(
     joined: &mut [u8],
 )
     requires { ⌜ electionRefusal (given modulus ballots compared (now ids) (now votes) (now numbers) (now permutations) (now keys)) (choiceOf «mask_given» mask) (now «first_dice») (choiceOf «sides_given» (now sides)) (now «second_dice») (length (now one)) (length (now two)) (length (now three)) (length (now joined)) ≡ 0 ⌝ }
-    ensures one { λ _. ⌜ now (one .exit) ≡ firstPart (given modulus ballots compared (now (ids .entry)) (now (votes .entry)) (now (numbers .entry)) (now (permutations .entry)) (now (keys .entry))) ⌝ }
-    ensures two { λ _. ⌜ now (two .exit) ≡ (electionTwo (given modulus ballots compared (now (ids .entry)) (now (votes .entry)) (now (numbers .entry)) (now (permutations .entry)) (now (keys .entry))) (choiceOf «mask_given» mask) (now («first_dice» .entry))) ⌝ }
-    ensures three { λ _. ⌜ now (three .exit) ≡ (electionThree (given modulus ballots compared (now (ids .entry)) (now (votes .entry)) (now (numbers .entry)) (now (permutations .entry)) (now (keys .entry))) (choiceOf «mask_given» mask) (now («first_dice» .entry)) (choiceOf «sides_given» (now (sides .entry))) (now («second_dice» .entry))) ⌝ }
-    ensures joined { λ _. ⌜ now (joined .exit) ≡ (electionRecord (given modulus ballots compared (now (ids .entry)) (now (votes .entry)) (now (numbers .entry)) (now (permutations .entry)) (now (keys .entry))) (choiceOf «mask_given» mask) (now («first_dice» .entry)) (choiceOf «sides_given» (now (sides .entry))) (now («second_dice» .entry))) ⌝ }
+    ensures one { λ _. ⌜ after one ≡ firstPart (given modulus ballots compared (before ids) (before votes) (before numbers) (before permutations) (before keys)) ⌝ }
+    ensures two { λ _. ⌜ after two ≡ (electionTwo (given modulus ballots compared (before ids) (before votes) (before numbers) (before permutations) (before keys)) (choiceOf «mask_given» mask) (before «first_dice»)) ⌝ }
+    ensures three { λ _. ⌜ after three ≡ (electionThree (given modulus ballots compared (before ids) (before votes) (before numbers) (before permutations) (before keys)) (choiceOf «mask_given» mask) (before «first_dice») (choiceOf «sides_given» (before sides)) (before «second_dice»)) ⌝ }
+    ensures joined { λ _. ⌜ after joined ≡ (electionRecord (given modulus ballots compared (before ids) (before votes) (before numbers) (before permutations) (before keys)) (choiceOf «mask_given» mask) (before «first_dice») (choiceOf «sides_given» (before sides)) (before «second_dice»)) ⌝ }
 {
     board::part_one(
         modulus,
@@ -419,14 +420,14 @@ pub fn hold(
     three: &mut [u8],
     joined: &mut [u8],
 ) -> Outcome
-    ensures answer { λ r. ⌜ r ≡ outcomeOf (electionRefusal (given modulus ballots compared (now (ids .entry)) (now (votes .entry)) (now (numbers .entry)) (now (permutations .entry)) (now (keys .entry))) (choiceOf «mask_given» mask) (now («first_dice» .entry)) (choiceOf «sides_given» (now (sides .entry))) (now («second_dice» .entry)) (length (now (one .entry))) (length (now (two .entry))) (length (now (three .entry))) (length (now (joined .entry)))) (judged false (electionRecord (given modulus ballots compared (now (ids .entry)) (now (votes .entry)) (now (numbers .entry)) (now (permutations .entry)) (now (keys .entry))) (choiceOf «mask_given» mask) (now («first_dice» .entry)) (choiceOf «sides_given» (now (sides .entry))) (now («second_dice» .entry)))) ⌝ }
-    ensures one { λ _. ⌜ now (one .exit) ≡ afterwards (electionRefusal (given modulus ballots compared (now (ids .entry)) (now (votes .entry)) (now (numbers .entry)) (now (permutations .entry)) (now (keys .entry))) (choiceOf «mask_given» mask) (now («first_dice» .entry)) (choiceOf «sides_given» (now (sides .entry))) (now («second_dice» .entry)) (length (now (one .entry))) (length (now (two .entry))) (length (now (three .entry))) (length (now (joined .entry)))) (now (one .entry)) (firstPart (given modulus ballots compared (now (ids .entry)) (now (votes .entry)) (now (numbers .entry)) (now (permutations .entry)) (now (keys .entry)))) ⌝ }
-    ensures two { λ _. ⌜ now (two .exit) ≡ afterwards (electionRefusal (given modulus ballots compared (now (ids .entry)) (now (votes .entry)) (now (numbers .entry)) (now (permutations .entry)) (now (keys .entry))) (choiceOf «mask_given» mask) (now («first_dice» .entry)) (choiceOf «sides_given» (now (sides .entry))) (now («second_dice» .entry)) (length (now (one .entry))) (length (now (two .entry))) (length (now (three .entry))) (length (now (joined .entry)))) (now (two .entry)) (electionTwo (given modulus ballots compared (now (ids .entry)) (now (votes .entry)) (now (numbers .entry)) (now (permutations .entry)) (now (keys .entry))) (choiceOf «mask_given» mask) (now («first_dice» .entry))) ⌝ }
-    ensures three { λ _. ⌜ now (three .exit) ≡ afterwards (electionRefusal (given modulus ballots compared (now (ids .entry)) (now (votes .entry)) (now (numbers .entry)) (now (permutations .entry)) (now (keys .entry))) (choiceOf «mask_given» mask) (now («first_dice» .entry)) (choiceOf «sides_given» (now (sides .entry))) (now («second_dice» .entry)) (length (now (one .entry))) (length (now (two .entry))) (length (now (three .entry))) (length (now (joined .entry)))) (now (three .entry)) (electionThree (given modulus ballots compared (now (ids .entry)) (now (votes .entry)) (now (numbers .entry)) (now (permutations .entry)) (now (keys .entry))) (choiceOf «mask_given» mask) (now («first_dice» .entry)) (choiceOf «sides_given» (now (sides .entry))) (now («second_dice» .entry))) ⌝ }
-    ensures joined { λ _. ⌜ now (joined .exit) ≡ afterwards (electionRefusal (given modulus ballots compared (now (ids .entry)) (now (votes .entry)) (now (numbers .entry)) (now (permutations .entry)) (now (keys .entry))) (choiceOf «mask_given» mask) (now («first_dice» .entry)) (choiceOf «sides_given» (now (sides .entry))) (now («second_dice» .entry)) (length (now (one .entry))) (length (now (two .entry))) (length (now (three .entry))) (length (now (joined .entry)))) (now (joined .entry)) (electionRecord (given modulus ballots compared (now (ids .entry)) (now (votes .entry)) (now (numbers .entry)) (now (permutations .entry)) (now (keys .entry))) (choiceOf «mask_given» mask) (now («first_dice» .entry)) (choiceOf «sides_given» (now (sides .entry))) (now («second_dice» .entry))) ⌝ }
-    ensures accepted { λ r. ⌜ ((electionRefusal (given modulus ballots compared (now (ids .entry)) (now (votes .entry)) (now (numbers .entry)) (now (permutations .entry)) (now (keys .entry))) (choiceOf «mask_given» mask) (now («first_dice» .entry)) (choiceOf «sides_given» (now (sides .entry))) (now («second_dice» .entry)) (length (now (one .entry))) (length (now (two .entry))) (length (now (three .entry))) (length (now (joined .entry)))) ≡ 0 → r ≡ Outcome.Accepted) ⌝ }
-    ensures announced { λ _. ⌜ ((electionRefusal (given modulus ballots compared (now (ids .entry)) (now (votes .entry)) (now (numbers .entry)) (now (permutations .entry)) (now (keys .entry))) (choiceOf «mask_given» mask) (now («first_dice» .entry)) (choiceOf «sides_given» (now (sides .entry))) (now («second_dice» .entry)) (length (now (one .entry))) (length (now (two .entry))) (length (now (three .entry))) (length (now (joined .entry)))) ≡ 0 → announcedVotes (now (joined .exit)) ≡ sort (now (votes .entry))) ⌝ }
-    ensures drawn { λ _. ⌜ («mask_given» ≡ false → «sides_given» ≡ false → (electionRefusal (given modulus ballots compared (now (ids .entry)) (now (votes .entry)) (now (numbers .entry)) (now (permutations .entry)) (now (keys .entry))) (choiceOf «mask_given» mask) (now («first_dice» .entry)) (choiceOf «sides_given» (now (sides .entry))) (now («second_dice» .entry)) (length (now (one .entry))) (length (now (two .entry))) (length (now (three .entry))) (length (now (joined .entry)))) ≡ 0 → judged true (now (joined .exit)) ≡ verdicts.Accepted) ⌝ }
+    ensures answer { λ r. ⌜ r ≡ outcomeOf (electionRefusal (given modulus ballots compared (before ids) (before votes) (before numbers) (before permutations) (before keys)) (choiceOf «mask_given» mask) (before «first_dice») (choiceOf «sides_given» (before sides)) (before «second_dice») (length (before one)) (length (before two)) (length (before three)) (length (before joined))) (judged false (electionRecord (given modulus ballots compared (before ids) (before votes) (before numbers) (before permutations) (before keys)) (choiceOf «mask_given» mask) (before «first_dice») (choiceOf «sides_given» (before sides)) (before «second_dice»))) ⌝ }
+    ensures one { λ _. ⌜ after one ≡ afterwards (electionRefusal (given modulus ballots compared (before ids) (before votes) (before numbers) (before permutations) (before keys)) (choiceOf «mask_given» mask) (before «first_dice») (choiceOf «sides_given» (before sides)) (before «second_dice») (length (before one)) (length (before two)) (length (before three)) (length (before joined))) (before one) (firstPart (given modulus ballots compared (before ids) (before votes) (before numbers) (before permutations) (before keys))) ⌝ }
+    ensures two { λ _. ⌜ after two ≡ afterwards (electionRefusal (given modulus ballots compared (before ids) (before votes) (before numbers) (before permutations) (before keys)) (choiceOf «mask_given» mask) (before «first_dice») (choiceOf «sides_given» (before sides)) (before «second_dice») (length (before one)) (length (before two)) (length (before three)) (length (before joined))) (before two) (electionTwo (given modulus ballots compared (before ids) (before votes) (before numbers) (before permutations) (before keys)) (choiceOf «mask_given» mask) (before «first_dice»)) ⌝ }
+    ensures three { λ _. ⌜ after three ≡ afterwards (electionRefusal (given modulus ballots compared (before ids) (before votes) (before numbers) (before permutations) (before keys)) (choiceOf «mask_given» mask) (before «first_dice») (choiceOf «sides_given» (before sides)) (before «second_dice») (length (before one)) (length (before two)) (length (before three)) (length (before joined))) (before three) (electionThree (given modulus ballots compared (before ids) (before votes) (before numbers) (before permutations) (before keys)) (choiceOf «mask_given» mask) (before «first_dice») (choiceOf «sides_given» (before sides)) (before «second_dice»)) ⌝ }
+    ensures joined { λ _. ⌜ after joined ≡ afterwards (electionRefusal (given modulus ballots compared (before ids) (before votes) (before numbers) (before permutations) (before keys)) (choiceOf «mask_given» mask) (before «first_dice») (choiceOf «sides_given» (before sides)) (before «second_dice») (length (before one)) (length (before two)) (length (before three)) (length (before joined))) (before joined) (electionRecord (given modulus ballots compared (before ids) (before votes) (before numbers) (before permutations) (before keys)) (choiceOf «mask_given» mask) (before «first_dice») (choiceOf «sides_given» (before sides)) (before «second_dice»)) ⌝ }
+    ensures accepted { λ r. ⌜ ((electionRefusal (given modulus ballots compared (before ids) (before votes) (before numbers) (before permutations) (before keys)) (choiceOf «mask_given» mask) (before «first_dice») (choiceOf «sides_given» (before sides)) (before «second_dice») (length (before one)) (length (before two)) (length (before three)) (length (before joined))) ≡ 0 → r ≡ Outcome.Accepted) ⌝ }
+    ensures announced { λ _. ⌜ ((electionRefusal (given modulus ballots compared (before ids) (before votes) (before numbers) (before permutations) (before keys)) (choiceOf «mask_given» mask) (before «first_dice») (choiceOf «sides_given» (before sides)) (before «second_dice») (length (before one)) (length (before two)) (length (before three)) (length (before joined))) ≡ 0 → announcedVotes (after joined) ≡ sort (before votes)) ⌝ }
+    ensures drawn { λ _. ⌜ («mask_given» ≡ false → «sides_given» ≡ false → (electionRefusal (given modulus ballots compared (before ids) (before votes) (before numbers) (before permutations) (before keys)) (choiceOf «mask_given» mask) (before «first_dice») (choiceOf «sides_given» (before sides)) (before «second_dice») (length (before one)) (length (before two)) (length (before three)) (length (before joined))) ≡ 0 → judged true (after joined) ≡ verdicts.Accepted) ⌝ }
 {
     let k = refuse(
         mask_given,

@@ -4,6 +4,7 @@ ghost use mathlib.Core.Path.{_≡_};
 ghost use mathlib.Core.List.{_++_};
 ghost use lib.ListN.{length};
 ghost use Rattle.laws.specs.Faults.{numberOf};
+ghost use Rattle.laws.specs.Lent.{before, after};
 ghost use Rattle.laws.specs.Tests.{differ, choose};
 ghost use Rattle.keccak.specs.Keccak.{keccakF};
 ghost use Rattle.sha3.specs.Sha3.{sha3-224, sha3-256};
@@ -29,7 +30,7 @@ use protocol::Written;
 // Keccak-f[1600], in place.
 #[no_mangle]
 pub extern "C" fn paddockyear_keccak_f(lanes: &mut [u64; 25])
-    ensures { λ _. ⌜ now (lanes .exit) ≡ keccakF (now (lanes .entry)) ⌝ }
+    ensures { λ _. ⌜ after lanes ≡ keccakF (before lanes) ⌝ }
 {
     let a = *lanes;
     let b = keccak::permute(a);
@@ -39,7 +40,7 @@ pub extern "C" fn paddockyear_keccak_f(lanes: &mut [u64; 25])
 // SHA3-224 of m.
 #[no_mangle]
 pub extern "C" fn paddockyear_sha3_224(m: &[u8], out: &mut [u8; 28])
-    ensures { λ _. ⌜ now (out .exit) ≡ sha3-224 (now (m .entry)) ⌝ }
+    ensures { λ _. ⌜ after out ≡ sha3-224 (before m) ⌝ }
 {
     sha3::sha3_224(m, out);
 }
@@ -47,7 +48,7 @@ pub extern "C" fn paddockyear_sha3_224(m: &[u8], out: &mut [u8; 28])
 // SHA3-256 of m.
 #[no_mangle]
 pub extern "C" fn paddockyear_sha3_256(m: &[u8], out: &mut [u8; 32])
-    ensures { λ _. ⌜ now (out .exit) ≡ sha3-256 (now (m .entry)) ⌝ }
+    ensures { λ _. ⌜ after out ≡ sha3-256 (before m) ⌝ }
 {
     sha3::sha3_256(m, out);
 }
@@ -55,7 +56,7 @@ pub extern "C" fn paddockyear_sha3_256(m: &[u8], out: &mut [u8; 32])
 // SHA3-224 of a message in three parts.
 #[no_mangle]
 pub extern "C" fn paddockyear_sha3_224_parts(a: &[u8], b: &[u8], c: &[u8], out: &mut [u8; 28])
-    ensures { λ _. ⌜ now (out .exit) ≡ sha3-224 (now (a .entry) ++ (now (b .entry) ++ now (c .entry))) ⌝ }
+    ensures { λ _. ⌜ after out ≡ sha3-224 (before a ++ (before b ++ before c)) ⌝ }
 {
     sha3::hash_parts(144, a, b, c, out);
 }
@@ -63,7 +64,7 @@ pub extern "C" fn paddockyear_sha3_224_parts(a: &[u8], b: &[u8], c: &[u8], out: 
 // SHA3-256 of a message in three parts.
 #[no_mangle]
 pub extern "C" fn paddockyear_sha3_256_parts(a: &[u8], b: &[u8], c: &[u8], out: &mut [u8; 32])
-    ensures { λ _. ⌜ now (out .exit) ≡ sha3-256 (now (a .entry) ++ (now (b .entry) ++ now (c .entry))) ⌝ }
+    ensures { λ _. ⌜ after out ≡ sha3-256 (before a ++ (before b ++ before c)) ⌝ }
 {
     sha3::hash_parts(136, a, b, c, out);
 }
@@ -95,9 +96,9 @@ pub extern "C" fn paddockyear_tablet(
     command: &mut [u8],
     receipt: &mut [u8],
 ) -> u32
-    ensures answer { λ r. ⌜ r ≡ tabletRefusal modulus vote x y u1 u2 u3 (length (now (keys .entry))) (length (now (command .entry))) (length (now (receipt .entry))) ⌝ }
-    ensures command { λ _. ⌜ now (command .exit) ≡ afterwards (tabletRefusal modulus vote x y u1 u2 u3 (length (now (keys .entry))) (length (now (command .entry))) (length (now (receipt .entry)))) (now (command .entry)) (tabletCommand modulus id vote x y u1 u2 u3 (now (keys .entry))) ⌝ }
-    ensures receipt { λ _. ⌜ now (receipt .exit) ≡ afterwards (tabletRefusal modulus vote x y u1 u2 u3 (length (now (keys .entry))) (length (now (command .entry))) (length (now (receipt .entry)))) (now (receipt .entry)) (tablets.receipt id (tabletCommand modulus id vote x y u1 u2 u3 (now (keys .entry)))) ⌝ }
+    ensures answer { λ r. ⌜ r ≡ tabletRefusal modulus vote x y u1 u2 u3 (length (before keys)) (length (before command)) (length (before receipt)) ⌝ }
+    ensures command { λ _. ⌜ after command ≡ afterwards (tabletRefusal modulus vote x y u1 u2 u3 (length (before keys)) (length (before command)) (length (before receipt))) (before command) (tabletCommand modulus id vote x y u1 u2 u3 (before keys)) ⌝ }
+    ensures receipt { λ _. ⌜ after receipt ≡ afterwards (tabletRefusal modulus vote x y u1 u2 u3 (length (before keys)) (length (before command)) (length (before receipt))) (before receipt) (tablets.receipt id (tabletCommand modulus id vote x y u1 u2 u3 (before keys))) ⌝ }
 {
     written_code(tablet::cast(modulus, id, vote, x, y, u1, u2, u3, keys, command, receipt))
 }
@@ -112,8 +113,8 @@ pub extern "C" fn paddockyear_row_server(
     permutation: &[u16],
     out: &mut [u32],
 ) -> u32
-    ensures answer { λ r. ⌜ r ≡ rowRefusal modulus n (now (numbers .entry)) (now (offsets .entry)) (now (permutation .entry)) (length (now (out .entry))) ⌝ }
-    ensures output { λ _. ⌜ now (out .exit) ≡ afterwards (rowRefusal modulus n (now (numbers .entry)) (now (offsets .entry)) (now (permutation .entry)) (length (now (out .entry)))) (now (out .entry)) (rowServer modulus (now (numbers .entry)) (now (offsets .entry)) (now (permutation .entry))) ⌝ }
+    ensures answer { λ r. ⌜ r ≡ rowRefusal modulus n (before numbers) (before offsets) (before permutation) (length (before out)) ⌝ }
+    ensures output { λ _. ⌜ after out ≡ afterwards (rowRefusal modulus n (before numbers) (before offsets) (before permutation) (length (before out))) (before out) (rowServer modulus (before numbers) (before offsets) (before permutation)) ⌝ }
 {
     written_code(mixnet::row_server(modulus, n, numbers, offsets, permutation, out))
 }
@@ -127,8 +128,8 @@ pub extern "C" fn paddockyear_third_row_offsets(
     second: &[u32],
     out: &mut [u32],
 ) -> u32
-    ensures answer { λ r. ⌜ r ≡ pairRefusal modulus n (now (first .entry)) (now (second .entry)) (length (now (out .entry))) ⌝ }
-    ensures output { λ _. ⌜ now (out .exit) ≡ afterwards (pairRefusal modulus n (now (first .entry)) (now (second .entry)) (length (now (out .entry)))) (now (out .entry)) (thirdOffsets modulus (now (first .entry)) (now (second .entry))) ⌝ }
+    ensures answer { λ r. ⌜ r ≡ pairRefusal modulus n (before first) (before second) (length (before out)) ⌝ }
+    ensures output { λ _. ⌜ after out ≡ afterwards (pairRefusal modulus n (before first) (before second) (length (before out))) (before out) (thirdOffsets modulus (before first) (before second)) ⌝ }
 {
     written_code(mixnet::third_row_offsets(modulus, n, first, second, out))
 }
@@ -142,8 +143,8 @@ pub extern "C" fn paddockyear_split(
     first_halves: &[u32],
     out: &mut [u32],
 ) -> u32
-    ensures answer { λ r. ⌜ r ≡ pairRefusal modulus n (now (numbers .entry)) (now («first_halves» .entry)) (length (now (out .entry))) ⌝ }
-    ensures output { λ _. ⌜ now (out .exit) ≡ afterwards (pairRefusal modulus n (now (numbers .entry)) (now («first_halves» .entry)) (length (now (out .entry)))) (now (out .entry)) (secondHalves modulus (now (numbers .entry)) (now («first_halves» .entry))) ⌝ }
+    ensures answer { λ r. ⌜ r ≡ pairRefusal modulus n (before numbers) (before «first_halves») (length (before out)) ⌝ }
+    ensures output { λ _. ⌜ after out ≡ afterwards (pairRefusal modulus n (before numbers) (before «first_halves») (length (before out))) (before out) (secondHalves modulus (before numbers) (before «first_halves»)) ⌝ }
 {
     written_code(mixnet::split(modulus, n, numbers, first_halves, out))
 }
@@ -163,8 +164,8 @@ pub extern "C" fn paddockyear_part_one(
     keys: &[u8],
     out: &mut [u8],
 ) -> u32
-    ensures answer { λ r. ⌜ r ≡ partOneRefusal (given modulus ballots compared (now (ids .entry)) (now (votes .entry)) (now (numbers .entry)) (now (permutations .entry)) (now (keys .entry))) (length (now (out .entry))) ⌝ }
-    ensures output { λ _. ⌜ now (out .exit) ≡ afterwards (partOneRefusal (given modulus ballots compared (now (ids .entry)) (now (votes .entry)) (now (numbers .entry)) (now (permutations .entry)) (now (keys .entry))) (length (now (out .entry)))) (now (out .entry)) (firstPart (given modulus ballots compared (now (ids .entry)) (now (votes .entry)) (now (numbers .entry)) (now (permutations .entry)) (now (keys .entry)))) ⌝ }
+    ensures answer { λ r. ⌜ r ≡ partOneRefusal (given modulus ballots compared (before ids) (before votes) (before numbers) (before permutations) (before keys)) (length (before out)) ⌝ }
+    ensures output { λ _. ⌜ after out ≡ afterwards (partOneRefusal (given modulus ballots compared (before ids) (before votes) (before numbers) (before permutations) (before keys)) (length (before out))) (before out) (firstPart (given modulus ballots compared (before ids) (before votes) (before numbers) (before permutations) (before keys))) ⌝ }
 {
     written_code(board::part_one(
         modulus,
@@ -194,8 +195,8 @@ pub extern "C" fn paddockyear_part_two(
     mask: u32,
     out: &mut [u8],
 ) -> u32
-    ensures answer { λ r. ⌜ r ≡ partTwoRefusal (given modulus ballots compared (now (ids .entry)) (now (votes .entry)) (now (numbers .entry)) (now (permutations .entry)) (now (keys .entry))) (now (dice .entry)) mask (length (now (out .entry))) ⌝ }
-    ensures output { λ _. ⌜ now (out .exit) ≡ afterwards (partTwoRefusal (given modulus ballots compared (now (ids .entry)) (now (votes .entry)) (now (numbers .entry)) (now (permutations .entry)) (now (keys .entry))) (now (dice .entry)) mask (length (now (out .entry)))) (now (out .entry)) (secondPart (given modulus ballots compared (now (ids .entry)) (now (votes .entry)) (now (numbers .entry)) (now (permutations .entry)) (now (keys .entry))) (now (dice .entry)) mask) ⌝ }
+    ensures answer { λ r. ⌜ r ≡ partTwoRefusal (given modulus ballots compared (before ids) (before votes) (before numbers) (before permutations) (before keys)) (before dice) mask (length (before out)) ⌝ }
+    ensures output { λ _. ⌜ after out ≡ afterwards (partTwoRefusal (given modulus ballots compared (before ids) (before votes) (before numbers) (before permutations) (before keys)) (before dice) mask (length (before out))) (before out) (secondPart (given modulus ballots compared (before ids) (before votes) (before numbers) (before permutations) (before keys)) (before dice) mask) ⌝ }
 {
     written_code(comparison::part_two(
         modulus,
@@ -227,8 +228,8 @@ pub extern "C" fn paddockyear_part_two_drawn(
     one: &[u8],
     out: &mut [u8],
 ) -> u32
-    ensures answer { λ r. ⌜ r ≡ partTwoDrawnRefusal (given modulus ballots compared (now (ids .entry)) (now (votes .entry)) (now (numbers .entry)) (now (permutations .entry)) (now (keys .entry))) (now (dice .entry)) (length (now (one .entry))) (length (now (out .entry))) ⌝ }
-    ensures output { λ _. ⌜ now (out .exit) ≡ afterwards (partTwoDrawnRefusal (given modulus ballots compared (now (ids .entry)) (now (votes .entry)) (now (numbers .entry)) (now (permutations .entry)) (now (keys .entry))) (now (dice .entry)) (length (now (one .entry))) (length (now (out .entry)))) (now (out .entry)) (secondPart (given modulus ballots compared (now (ids .entry)) (now (votes .entry)) (now (numbers .entry)) (now (permutations .entry)) (now (keys .entry))) (now (dice .entry)) (maskFor (given modulus ballots compared (now (ids .entry)) (now (votes .entry)) (now (numbers .entry)) (now (permutations .entry)) (now (keys .entry))) (now (dice .entry)) (now (one .entry)))) ⌝ }
+    ensures answer { λ r. ⌜ r ≡ partTwoDrawnRefusal (given modulus ballots compared (before ids) (before votes) (before numbers) (before permutations) (before keys)) (before dice) (length (before one)) (length (before out)) ⌝ }
+    ensures output { λ _. ⌜ after out ≡ afterwards (partTwoDrawnRefusal (given modulus ballots compared (before ids) (before votes) (before numbers) (before permutations) (before keys)) (before dice) (length (before one)) (length (before out))) (before out) (secondPart (given modulus ballots compared (before ids) (before votes) (before numbers) (before permutations) (before keys)) (before dice) (maskFor (given modulus ballots compared (before ids) (before votes) (before numbers) (before permutations) (before keys)) (before dice) (before one))) ⌝ }
 {
     written_code(comparison::part_two_drawn(
         modulus,
@@ -261,8 +262,8 @@ pub extern "C" fn paddockyear_part_three(
     sides: &[u8],
     out: &mut [u8],
 ) -> u32
-    ensures answer { λ r. ⌜ r ≡ partThreeRefusal (given modulus ballots compared (now (ids .entry)) (now (votes .entry)) (now (numbers .entry)) (now (permutations .entry)) (now (keys .entry))) (now (dice .entry)) mask (now (sides .entry)) (length (now (out .entry))) ⌝ }
-    ensures output { λ _. ⌜ now (out .exit) ≡ afterwards (partThreeRefusal (given modulus ballots compared (now (ids .entry)) (now (votes .entry)) (now (numbers .entry)) (now (permutations .entry)) (now (keys .entry))) (now (dice .entry)) mask (now (sides .entry)) (length (now (out .entry)))) (now (out .entry)) (thirdPart (given modulus ballots compared (now (ids .entry)) (now (votes .entry)) (now (numbers .entry)) (now (permutations .entry)) (now (keys .entry))) (now (dice .entry)) mask (now (sides .entry))) ⌝ }
+    ensures answer { λ r. ⌜ r ≡ partThreeRefusal (given modulus ballots compared (before ids) (before votes) (before numbers) (before permutations) (before keys)) (before dice) mask (before sides) (length (before out)) ⌝ }
+    ensures output { λ _. ⌜ after out ≡ afterwards (partThreeRefusal (given modulus ballots compared (before ids) (before votes) (before numbers) (before permutations) (before keys)) (before dice) mask (before sides) (length (before out))) (before out) (thirdPart (given modulus ballots compared (before ids) (before votes) (before numbers) (before permutations) (before keys)) (before dice) mask (before sides)) ⌝ }
 {
     written_code(disclosure::part_three(
         modulus,
@@ -297,8 +298,8 @@ pub extern "C" fn paddockyear_part_three_drawn(
     two: &[u8],
     out: &mut [u8],
 ) -> u32
-    ensures answer { λ r. ⌜ r ≡ partThreeDrawnRefusal (given modulus ballots compared (now (ids .entry)) (now (votes .entry)) (now (numbers .entry)) (now (permutations .entry)) (now (keys .entry))) (now (dice .entry)) mask (length (now (one .entry))) (length (now (two .entry))) (length (now (out .entry))) ⌝ }
-    ensures output { λ _. ⌜ now (out .exit) ≡ afterwards (partThreeDrawnRefusal (given modulus ballots compared (now (ids .entry)) (now (votes .entry)) (now (numbers .entry)) (now (permutations .entry)) (now (keys .entry))) (now (dice .entry)) mask (length (now (one .entry))) (length (now (two .entry))) (length (now (out .entry)))) (now (out .entry)) (thirdPart (given modulus ballots compared (now (ids .entry)) (now (votes .entry)) (now (numbers .entry)) (now (permutations .entry)) (now (keys .entry))) (now (dice .entry)) mask (sidesFor (given modulus ballots compared (now (ids .entry)) (now (votes .entry)) (now (numbers .entry)) (now (permutations .entry)) (now (keys .entry))) (now (dice .entry)) (now (one .entry)) (now (two .entry)))) ⌝ }
+    ensures answer { λ r. ⌜ r ≡ partThreeDrawnRefusal (given modulus ballots compared (before ids) (before votes) (before numbers) (before permutations) (before keys)) (before dice) mask (length (before one)) (length (before two)) (length (before out)) ⌝ }
+    ensures output { λ _. ⌜ after out ≡ afterwards (partThreeDrawnRefusal (given modulus ballots compared (before ids) (before votes) (before numbers) (before permutations) (before keys)) (before dice) mask (length (before one)) (length (before two)) (length (before out))) (before out) (thirdPart (given modulus ballots compared (before ids) (before votes) (before numbers) (before permutations) (before keys)) (before dice) mask (sidesFor (given modulus ballots compared (before ids) (before votes) (before numbers) (before permutations) (before keys)) (before dice) (before one) (before two))) ⌝ }
 {
     written_code(disclosure::part_three_drawn(
         modulus,
@@ -327,8 +328,8 @@ pub extern "C" fn paddockyear_draw_mask(
     one: &[u8],
     mask: &mut u32,
 ) -> u32
-    ensures answer { λ r. ⌜ r ≡ drawRefusal (record { modulus = modulus; ballots = ballots; compared = compared }) (now (dice .entry)) (length (now (one .entry))) ⌝ }
-    ensures mask { λ _. ⌜ now (mask .exit) ≡ choose (drawRefusal (record { modulus = modulus; ballots = ballots; compared = compared }) (now (dice .entry)) (length (now (one .entry)))) (drawnMask compared (challenge (now (dice .entry)) (now (one .entry)))) (now (mask .entry)) ⌝ }
+    ensures answer { λ r. ⌜ r ≡ drawRefusal (record { modulus = modulus; ballots = ballots; compared = compared }) (before dice) (length (before one)) ⌝ }
+    ensures mask { λ _. ⌜ after mask ≡ choose (drawRefusal (record { modulus = modulus; ballots = ballots; compared = compared }) (before dice) (length (before one))) (drawnMask compared (challenge (before dice) (before one))) (before mask) ⌝ }
 {
     match comparison::draw(modulus, ballots, compared, dice, one) {
         Draw::Refused(k) => k,
@@ -373,11 +374,11 @@ pub extern "C" fn paddockyear_election(
     three: &mut [u8],
     joined: &mut [u8],
 ) -> u32
-    ensures answer { λ r. ⌜ r ≡ (electionRefusal (given modulus ballots compared (now (ids .entry)) (now (votes .entry)) (now (numbers .entry)) (now (permutations .entry)) (now (keys .entry))) (choiceOf (differ «mask_given» 0) mask) (now («first_dice» .entry)) (choiceOf (differ «sides_given» 0) (now (sides .entry))) (now («second_dice» .entry)) (length (now (one .entry))) (length (now (two .entry))) (length (now (three .entry))) (length (now (joined .entry)))) ⌝ }
-    ensures one { λ _. ⌜ now (one .exit) ≡ afterwards (electionRefusal (given modulus ballots compared (now (ids .entry)) (now (votes .entry)) (now (numbers .entry)) (now (permutations .entry)) (now (keys .entry))) (choiceOf (differ «mask_given» 0) mask) (now («first_dice» .entry)) (choiceOf (differ «sides_given» 0) (now (sides .entry))) (now («second_dice» .entry)) (length (now (one .entry))) (length (now (two .entry))) (length (now (three .entry))) (length (now (joined .entry)))) (now (one .entry)) (firstPart (given modulus ballots compared (now (ids .entry)) (now (votes .entry)) (now (numbers .entry)) (now (permutations .entry)) (now (keys .entry)))) ⌝ }
-    ensures two { λ _. ⌜ now (two .exit) ≡ afterwards (electionRefusal (given modulus ballots compared (now (ids .entry)) (now (votes .entry)) (now (numbers .entry)) (now (permutations .entry)) (now (keys .entry))) (choiceOf (differ «mask_given» 0) mask) (now («first_dice» .entry)) (choiceOf (differ «sides_given» 0) (now (sides .entry))) (now («second_dice» .entry)) (length (now (one .entry))) (length (now (two .entry))) (length (now (three .entry))) (length (now (joined .entry)))) (now (two .entry)) (electionTwo (given modulus ballots compared (now (ids .entry)) (now (votes .entry)) (now (numbers .entry)) (now (permutations .entry)) (now (keys .entry))) (choiceOf (differ «mask_given» 0) mask) (now («first_dice» .entry))) ⌝ }
-    ensures three { λ _. ⌜ now (three .exit) ≡ afterwards (electionRefusal (given modulus ballots compared (now (ids .entry)) (now (votes .entry)) (now (numbers .entry)) (now (permutations .entry)) (now (keys .entry))) (choiceOf (differ «mask_given» 0) mask) (now («first_dice» .entry)) (choiceOf (differ «sides_given» 0) (now (sides .entry))) (now («second_dice» .entry)) (length (now (one .entry))) (length (now (two .entry))) (length (now (three .entry))) (length (now (joined .entry)))) (now (three .entry)) (electionThree (given modulus ballots compared (now (ids .entry)) (now (votes .entry)) (now (numbers .entry)) (now (permutations .entry)) (now (keys .entry))) (choiceOf (differ «mask_given» 0) mask) (now («first_dice» .entry)) (choiceOf (differ «sides_given» 0) (now (sides .entry))) (now («second_dice» .entry))) ⌝ }
-    ensures joined { λ _. ⌜ now (joined .exit) ≡ afterwards (electionRefusal (given modulus ballots compared (now (ids .entry)) (now (votes .entry)) (now (numbers .entry)) (now (permutations .entry)) (now (keys .entry))) (choiceOf (differ «mask_given» 0) mask) (now («first_dice» .entry)) (choiceOf (differ «sides_given» 0) (now (sides .entry))) (now («second_dice» .entry)) (length (now (one .entry))) (length (now (two .entry))) (length (now (three .entry))) (length (now (joined .entry)))) (now (joined .entry)) (electionRecord (given modulus ballots compared (now (ids .entry)) (now (votes .entry)) (now (numbers .entry)) (now (permutations .entry)) (now (keys .entry))) (choiceOf (differ «mask_given» 0) mask) (now («first_dice» .entry)) (choiceOf (differ «sides_given» 0) (now (sides .entry))) (now («second_dice» .entry))) ⌝ }
+    ensures answer { λ r. ⌜ r ≡ (electionRefusal (given modulus ballots compared (before ids) (before votes) (before numbers) (before permutations) (before keys)) (choiceOf (differ «mask_given» 0) mask) (before «first_dice») (choiceOf (differ «sides_given» 0) (before sides)) (before «second_dice») (length (before one)) (length (before two)) (length (before three)) (length (before joined))) ⌝ }
+    ensures one { λ _. ⌜ after one ≡ afterwards (electionRefusal (given modulus ballots compared (before ids) (before votes) (before numbers) (before permutations) (before keys)) (choiceOf (differ «mask_given» 0) mask) (before «first_dice») (choiceOf (differ «sides_given» 0) (before sides)) (before «second_dice») (length (before one)) (length (before two)) (length (before three)) (length (before joined))) (before one) (firstPart (given modulus ballots compared (before ids) (before votes) (before numbers) (before permutations) (before keys))) ⌝ }
+    ensures two { λ _. ⌜ after two ≡ afterwards (electionRefusal (given modulus ballots compared (before ids) (before votes) (before numbers) (before permutations) (before keys)) (choiceOf (differ «mask_given» 0) mask) (before «first_dice») (choiceOf (differ «sides_given» 0) (before sides)) (before «second_dice») (length (before one)) (length (before two)) (length (before three)) (length (before joined))) (before two) (electionTwo (given modulus ballots compared (before ids) (before votes) (before numbers) (before permutations) (before keys)) (choiceOf (differ «mask_given» 0) mask) (before «first_dice»)) ⌝ }
+    ensures three { λ _. ⌜ after three ≡ afterwards (electionRefusal (given modulus ballots compared (before ids) (before votes) (before numbers) (before permutations) (before keys)) (choiceOf (differ «mask_given» 0) mask) (before «first_dice») (choiceOf (differ «sides_given» 0) (before sides)) (before «second_dice») (length (before one)) (length (before two)) (length (before three)) (length (before joined))) (before three) (electionThree (given modulus ballots compared (before ids) (before votes) (before numbers) (before permutations) (before keys)) (choiceOf (differ «mask_given» 0) mask) (before «first_dice») (choiceOf (differ «sides_given» 0) (before sides)) (before «second_dice»)) ⌝ }
+    ensures joined { λ _. ⌜ after joined ≡ afterwards (electionRefusal (given modulus ballots compared (before ids) (before votes) (before numbers) (before permutations) (before keys)) (choiceOf (differ «mask_given» 0) mask) (before «first_dice») (choiceOf (differ «sides_given» 0) (before sides)) (before «second_dice») (length (before one)) (length (before two)) (length (before three)) (length (before joined))) (before joined) (electionRecord (given modulus ballots compared (before ids) (before votes) (before numbers) (before permutations) (before keys)) (choiceOf (differ «mask_given» 0) mask) (before «first_dice») (choiceOf (differ «sides_given» 0) (before sides)) (before «second_dice»)) ⌝ }
 {
     outcome_code(election::hold(
         mask_given != 0,
@@ -416,7 +417,7 @@ fn number_of(f: Found) -> u32
 // Plain judging: 0 for accepted, else the number of the first rule broken.
 #[no_mangle]
 pub extern "C" fn paddockyear_judge_plainly(bytes: &[u8]) -> u32
-    ensures { λ r. ⌜ r ≡ numberOf (firstFault false (now (bytes .entry))) ⌝ }
+    ensures { λ r. ⌜ r ≡ numberOf (firstFault false (before bytes)) ⌝ }
 {
     number_of(verifier::first_fault(bytes, false))
 }
@@ -424,7 +425,7 @@ pub extern "C" fn paddockyear_judge_plainly(bytes: &[u8]) -> u32
 // Drawn judging, answered in the same way.
 #[no_mangle]
 pub extern "C" fn paddockyear_judge_as_drawn(bytes: &[u8]) -> u32
-    ensures { λ r. ⌜ r ≡ numberOf (firstFault true (now (bytes .entry))) ⌝ }
+    ensures { λ r. ⌜ r ≡ numberOf (firstFault true (before bytes)) ⌝ }
 {
     number_of(verifier::first_fault(bytes, true))
 }
@@ -433,8 +434,8 @@ pub extern "C" fn paddockyear_judge_as_drawn(bytes: &[u8]) -> u32
 // judging.
 #[no_mangle]
 pub extern "C" fn paddockyear_first_fault(bytes: &[u8], drawn: u32, place: &mut u64) -> u32
-    ensures number { λ r. ⌜ r ≡ numberOf (firstFault (differ drawn 0) (now (bytes .entry))) ⌝ }
-    ensures place { λ _. ⌜ now (place .exit) ≡ placeIn (firstFault (differ drawn 0) (now (bytes .entry))) (now (place .entry)) ⌝ }
+    ensures number { λ r. ⌜ r ≡ numberOf (firstFault (differ drawn 0) (before bytes)) ⌝ }
+    ensures place { λ _. ⌜ after place ≡ placeIn (firstFault (differ drawn 0) (before bytes)) (before place) ⌝ }
 {
     match verifier::first_fault(bytes, drawn != 0) {
         Found::Nothing => 0,
@@ -453,10 +454,10 @@ pub extern "C" fn paddockyear_tally(
     counts: &mut [u32],
     pairs: &mut u64,
 ) -> u32
-    ensures answer { λ r. ⌜ r ≡ tallyRefusal (now (votes .entry)) (length (now (values .entry))) (length (now (counts .entry))) ⌝ }
-    ensures pairs { λ _. ⌜ now (pairs .exit) ≡ choose (tallyRefusal (now (votes .entry)) (length (now (values .entry))) (length (now (counts .entry)))) (length (distinctVotes (now (votes .entry)))) (now (pairs .entry)) ⌝ }
-    ensures values { λ _. ⌜ now (values .exit) ≡ afterwards (tallyRefusal (now (votes .entry)) (length (now (values .entry))) (length (now (counts .entry)))) (now (values .entry)) (inFront (distinctVotes (now (votes .entry))) (now (values .entry))) ⌝ }
-    ensures counts { λ _. ⌜ now (counts .exit) ≡ afterwards (tallyRefusal (now (votes .entry)) (length (now (values .entry))) (length (now (counts .entry)))) (now (counts .entry)) (inFront (voteCounts (now (votes .entry))) (now (counts .entry))) ⌝ }
+    ensures answer { λ r. ⌜ r ≡ tallyRefusal (before votes) (length (before values)) (length (before counts)) ⌝ }
+    ensures pairs { λ _. ⌜ after pairs ≡ choose (tallyRefusal (before votes) (length (before values)) (length (before counts))) (length (distinctVotes (before votes))) (before pairs) ⌝ }
+    ensures values { λ _. ⌜ after values ≡ afterwards (tallyRefusal (before votes) (length (before values)) (length (before counts))) (before values) (inFront (distinctVotes (before votes)) (before values)) ⌝ }
+    ensures counts { λ _. ⌜ after counts ≡ afterwards (tallyRefusal (before votes) (length (before values)) (length (before counts))) (before counts) (inFront (voteCounts (before votes)) (before counts)) ⌝ }
 {
     match tally::tally(votes, values, counts) {
         Tally::Refused(k) => k,
@@ -472,7 +473,7 @@ pub extern "C" fn paddockyear_tally(
 // 0 posted as printed, 101 posted otherwise, 102 not posted, else the refusal's number.
 #[no_mangle]
 pub extern "C" fn paddockyear_check_receipt(bytes: &[u8], printed: &[u8]) -> u32
-    ensures { λ r. ⌜ r ≡ receiptCode (receiptChecked (now (bytes .entry)) (now (printed .entry))) ⌝ }
+    ensures { λ r. ⌜ r ≡ receiptCode (receiptChecked (before bytes) (before printed)) ⌝ }
 {
     receipt_code(results::check_receipt(bytes, printed))
 }
@@ -491,8 +492,8 @@ fn receipt_code(answer: Receipt) -> u32
 // The announced votes of an accepted record.
 #[no_mangle]
 pub extern "C" fn paddockyear_announced_votes(bytes: &[u8], out: &mut [u32]) -> u32
-    ensures answer { λ r. ⌜ r ≡ announcedRefusal (now (bytes .entry)) (length (now (out .entry))) ⌝ }
-    ensures output { λ _. ⌜ now (out .exit) ≡ afterwards (announcedRefusal (now (bytes .entry)) (length (now (out .entry)))) (now (out .entry)) (announcedVotes (now (bytes .entry))) ⌝ }
+    ensures answer { λ r. ⌜ r ≡ announcedRefusal (before bytes) (length (before out)) ⌝ }
+    ensures output { λ _. ⌜ after out ≡ afterwards (announcedRefusal (before bytes) (length (before out))) (before out) (announcedVotes (before bytes)) ⌝ }
 {
     written_code(results::announced_votes(bytes, out))
 }

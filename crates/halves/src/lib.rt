@@ -3,6 +3,7 @@ ghost use mathlib.Core.List.{[]};
 ghost use Prim.Native.Nat.{_+_, _*_, _≤_, _<_};
 ghost use lib.ListN.{length};
 ghost use Rattle.laws.specs.Chunks.{chunks};
+ghost use Rattle.laws.specs.Lent.{before, after};
 ghost use Rattle.laws.specs.Masks.{bit};
 ghost use Rattle.laws.specs.Tests.{choose};
 ghost use Rattle.laws.specs.Writing.{Went};
@@ -27,7 +28,7 @@ fn put_if_compared(
     keys: &[u8],
 ) -> usize
     requires { ⌜ ListReady modulus n (now mixed) (now numbers) l × (KeysReady n l (now keys) × ((i < n) × ((side ≤ 1) × (at + bit mask l * 112 ≤ length (now out))))) ⌝ }
-    ensures { λ r. ⌜ Went (now (out .entry)) at (choose (bit mask l) [] (listHalfIn modulus n (now (mixed .entry)) (now (numbers .entry)) (now (keys .entry)) l i side)) (now (out .exit)) r ⌝ }
+    ensures { λ r. ⌜ Went (before out) at (choose (bit mask l) [] (listHalfIn modulus n (before mixed) (before numbers) (before keys) l i side)) (after out) r ⌝ }
 {
     if (mask >> (l as u32)) % 2 == 0 {
         return at;
@@ -53,7 +54,7 @@ fn put_linked(
     keys: &[u8],
 ) -> usize
     requires { ⌜ LinkedReady p mask (now positions) (now mixed) (now numbers) (now keys) × ((j < p .ballots) × ((side ≤ 1) × (at + p .compared * 112 ≤ length (now out)))) ⌝ }
-    ensures { λ r. ⌜ Went (now (out .entry)) at (listHalvesIn p mask (now (positions .entry)) (now (mixed .entry)) (now (numbers .entry)) (now (keys .entry)) j side) (now (out .exit)) r ⌝ }
+    ensures { λ r. ⌜ Went (before out) at (listHalvesIn p mask (before positions) (before mixed) (before numbers) (before keys) j side) (after out) r ⌝ }
 {
     let n = p.ballots;
     let lists = 2 * p.compared;
@@ -94,7 +95,7 @@ fn put_halves_of(
     keys: &[u8],
 ) -> usize
     requires { ⌜ HalvesReady p mask (now positions) (now rows) (now mixed) (now numbers) (now keys) × ((j < p .ballots) × ((side ≤ 1) × (at + (p .compared + 1) * 112 ≤ length (now out)))) ⌝ }
-    ensures { λ r. ⌜ Went (now (out .entry)) at (halvesIn p mask (now (positions .entry)) (now (rows .entry)) (now (mixed .entry)) (now (numbers .entry)) (now (keys .entry)) side j) (now (out .exit)) r ⌝ }
+    ensures { λ r. ⌜ Went (before out) at (halvesIn p mask (before positions) (before rows) (before mixed) (before numbers) (before keys) side j) (after out) r ⌝ }
 {
     let from = 192 * j;
     let to = from + 192;
@@ -129,7 +130,7 @@ pub fn put_halves(
     keys: &[u8],
 ) -> usize
     requires { ⌜ ThreeReady p mask (now sides) (now positions) (now rows) (now mixed) (now numbers) (now keys) × (at + p .ballots * ((p .compared + 1) * 112) ≤ length (now out)) ⌝ }
-    ensures { λ r. ⌜ Went (now (out .entry)) at (chunks (λ j. halvesIn p mask (now (positions .entry)) (now (rows .entry)) (now (mixed .entry)) (now (numbers .entry)) (now (keys .entry)) (item (now (sides .entry)) j) j) (p .ballots)) (now (out .exit)) r ⌝ }
+    ensures { λ r. ⌜ Went (before out) at (chunks (λ j. halvesIn p mask (before positions) (before rows) (before mixed) (before numbers) (before keys) (item (before sides) j) j) (p .ballots)) (after out) r ⌝ }
 {
     let n = p.ballots;
     let mut next = at;

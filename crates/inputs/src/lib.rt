@@ -3,6 +3,7 @@ ghost use mathlib.Core.List.{List};
 ghost use mathlib.Core.Path.{_≡_};
 ghost use Prim.Native.Nat.{ℕ, _+_, _*_, _≤_, _<_};
 ghost use lib.ListN.{length};
+ghost use Rattle.laws.specs.Lent.{before};
 ghost use Rattle.protocol.specs.Terms.{item, mostBallots, allBelow, modulusInLimits, ballotsInLimits, inLimits};
 ghost use Rattle.protocol.specs.Columns.{isPermutation};
 ghost use Rattle.protocol.specs.Inputs.{given, dueLengths};
@@ -43,7 +44,7 @@ pub fn in_limits(modulus: u32, ballots: u32, compared: u32) -> bool
 
 // Whether every number of a slice is below a limit.
 pub fn all_below(limit: u32, numbers: &[u32]) -> bool
-    ensures { λ r. ⌜ r ≡ allBelow limit (now (numbers .entry)) ⌝ }
+    ensures { λ r. ⌜ r ≡ allBelow limit (before numbers) ⌝ }
 {
     let mut i: usize = 0;
     while i < numbers.len() {
@@ -58,7 +59,7 @@ pub fn all_below(limit: u32, numbers: &[u32]) -> bool
 // Whether n numbers are the places below n, each once. One mark is set for each.
 pub fn is_permutation(n: usize, permutation: &[u16]) -> bool
     requires { ⌜ (length (now permutation) ≡ n) × (n ≤ mostBallots) ⌝ }
-    ensures { λ r. ⌜ r ≡ isPermutation n (item (now (permutation .entry))) ⌝ }
+    ensures { λ r. ⌜ r ≡ isPermutation n (item (before permutation)) ⌝ }
 {
     let mut marks = [false; 1024];
     let mut i: usize = 0;
@@ -78,7 +79,7 @@ pub fn is_permutation(n: usize, permutation: &[u16]) -> bool
 
 // Whether each id is above the one before.
 fn ids_rise(ids: &[u32]) -> bool
-    ensures { λ r. ⌜ r ≡ rising (now (ids .entry)) ⌝ }
+    ensures { λ r. ⌜ r ≡ rising (before ids) ⌝ }
 {
     let mut i: usize = 1;
     while i < ids.len() {
@@ -92,7 +93,7 @@ fn ids_rise(ids: &[u32]) -> bool
 
 // Whether every side is 0 or 1.
 pub fn binary_sides(sides: &[u8]) -> bool
-    ensures { λ r. ⌜ r ≡ binary (now (sides .entry)) ⌝ }
+    ensures { λ r. ⌜ r ≡ binary (before sides) ⌝ }
 {
     let mut i: usize = 0;
     while i < sides.len() {
@@ -107,7 +108,7 @@ pub fn binary_sides(sides: &[u8]) -> bool
 // Whether all three permutations of every list are permutations.
 fn all_permutations(ballots: usize, lists: usize, permutations: &[u16]) -> bool
     requires { ⌜ (ballots ≤ mostBallots) × ((lists ≤ 24) × (length (now permutations) ≡ lists * (3 * ballots))) ⌝ }
-    ensures { λ r. ⌜ r ≡ permutationsIn ballots lists (now (permutations .entry)) ⌝ }
+    ensures { λ r. ⌜ r ≡ permutationsIn ballots lists (before permutations) ⌝ }
 {
     let mut c: usize = 0;
     while c < 3 * lists {
@@ -132,7 +133,7 @@ pub fn due_lengths(
     keys: &[u8],
 ) -> bool
     requires { ⌜ (ballots ≤ mostBallots) × (compared ≤ 12) ⌝ }
-    ensures { λ r. ⌜ ((modulus : ℕ) → r ≡ dueLengths (given modulus ballots compared (now (ids .entry)) (now (votes .entry)) (now (numbers .entry)) (now (permutations .entry)) (now (keys .entry)))) ⌝ }
+    ensures { λ r. ⌜ ((modulus : ℕ) → r ≡ dueLengths (given modulus ballots compared (before ids) (before votes) (before numbers) (before permutations) (before keys))) ⌝ }
 {
     let each = compared * ballots;
     if ids.len() != ballots {
@@ -164,7 +165,7 @@ pub fn refuse_contents(
     binary: bool,
 ) -> u32
     requires { ⌜ ContentsReady ballots compared (now ids) (now votes) (now permutations) ⌝ }
-    ensures { λ r. ⌜ ((keys : List ℕ) → r ≡ contentsRefusal (given modulus ballots compared (now (ids .entry)) (now (votes .entry)) (now (numbers .entry)) (now (permutations .entry)) keys) fair shape binary) ⌝ }
+    ensures { λ r. ⌜ ((keys : List ℕ) → r ≡ contentsRefusal (given modulus ballots compared (before ids) (before votes) (before numbers) (before permutations) keys) fair shape binary) ⌝ }
 {
     if !ids_rise(ids) {
         return 5;

@@ -14,3 +14,4 @@ pub mod Chunks
 pub mod At
 pub mod Writing
 pub mod Spans
+pub mod Lent

@@ -2,6 +2,7 @@
 ghost use mathlib.Core.Path.{_≡_};
 ghost use Prim.Native.Nat.{ℕ, _+_, _*_, _<_};
 ghost use lib.ListN.{length};
+ghost use Rattle.laws.specs.Lent.{before, after};
 ghost use Rattle.laws.specs.Modular as modulo;
 ghost use Rattle.laws.specs.Permutations.{whence};
 ghost use Rattle.laws.specs.Tables.{tabulate};
@@ -28,7 +29,7 @@ fn share_of(modulus: u32, whole: u32, x: u32, y: u32, k: usize) -> u32
 // Row k of the ballots.
 fn fill_row(modulus: u32, votes: &[u32], numbers: &[u32], k: usize, out: &mut [u32])
     requires { ⌜ BallotsReady modulus (now votes) (now numbers) × (length (now out) ≡ length (now votes)) ⌝ }
-    ensures { λ _. ⌜ now (out .exit) ≡ tabulate (shareAt modulus (now (votes .entry)) (now (numbers .entry)) k) (length (now (votes .entry))) ⌝ }
+    ensures { λ _. ⌜ after out ≡ tabulate (shareAt modulus (before votes) (before numbers) k) (length (before votes)) ⌝ }
 {
     let n = votes.len();
     let mut j: usize = 0;
@@ -41,7 +42,7 @@ fn fill_row(modulus: u32, votes: &[u32], numbers: &[u32], k: usize, out: &mut [u
 // The rows x, y and z of the ballots, one behind the other.
 pub fn fill_rows(modulus: u32, votes: &[u32], numbers: &[u32], out: &mut [u32])
     requires { ⌜ BallotsReady modulus (now votes) (now numbers) × (length (now out) ≡ 3 * length (now votes)) ⌝ }
-    ensures { λ _. ⌜ Rows modulus (length (now (votes .entry))) (shareAt modulus (now (votes .entry)) (now (numbers .entry))) (now (out .exit)) ⌝ }
+    ensures { λ _. ⌜ Rows modulus (length (before votes)) (shareAt modulus (before votes) (before numbers)) (after out) ⌝ }
 {
     let n = votes.len();
     let mut k: usize = 0;
@@ -56,7 +57,7 @@ pub fn fill_rows(modulus: u32, votes: &[u32], numbers: &[u32], out: &mut [u32])
 // The offsets of row k, from the pairs for rows one and two.
 fn row_offsets(modulus: u32, pairs: &[u32], k: usize, out: &mut [u32])
     requires { ⌜ OffsetsReady modulus (now pairs) (length (now out)) ⌝ }
-    ensures { λ _. ⌜ now (out .exit) ≡ tabulate (λ i. share modulus 0 (item (now (pairs .entry)) (2 * i)) (item (now (pairs .entry)) (2 * i + 1)) k) (length (now (out .entry))) ⌝ }
+    ensures { λ _. ⌜ after out ≡ tabulate (λ i. share modulus 0 (item (before pairs) (2 * i)) (item (before pairs) (2 * i + 1)) k) (length (before out)) ⌝ }
 {
     let n = out.len();
     let mut i: usize = 0;
@@ -79,7 +80,7 @@ fn column(
     out: &mut [u32],
 )
     requires { ⌜ ColumnReady modulus n c (now numbers) (now mine) (now permutations) (length (now offsets)) (length (now out)) ⌝ }
-    ensures { λ _. ⌜ now (out .exit) ≡ tabulate (columnAt modulus n (now (mine .entry)) (now (permutations .entry)) c k (item (now (numbers .entry)))) n ⌝ }
+    ensures { λ _. ⌜ after out ≡ tabulate (columnAt modulus n (before mine) (before permutations) c k (item (before numbers))) n ⌝ }
 {
     let first = c * (2 * n);
     let last = first + 2 * n;
@@ -102,7 +103,7 @@ fn through(
     out: &mut [u32],
 )
     requires { ⌜ ThroughReady modulus n (now numbers) (now mine) (now permutations) (length (now offsets)) (length (now between)) (length (now out)) ⌝ }
-    ensures { λ _. ⌜ now (out .exit) ≡ tabulate (throughAt modulus n (now (mine .entry)) (now (permutations .entry)) k (item (now (numbers .entry)))) n ⌝ }
+    ensures { λ _. ⌜ after out ≡ tabulate (throughAt modulus n (before mine) (before permutations) k (item (before numbers))) n ⌝ }
 {
     column(modulus, n, 0, k, numbers, mine, permutations, offsets, out);
     column(modulus, n, 1, k, out, mine, permutations, offsets, between);
@@ -121,7 +122,7 @@ fn mix_rows(
     out: &mut [u32],
 )
     requires { ⌜ ListReady modulus n (now rows) (now mine) (now permutations) (length (now out)) × ((length (now offsets) ≡ n) × (length (now between) ≡ n)) ⌝ }
-    ensures { λ _. ⌜ Rows modulus n (mixedAt modulus n (rowsAt n (now (rows .entry))) (now (mine .entry)) (now (permutations .entry))) (now (out .exit)) ⌝ }
+    ensures { λ _. ⌜ Rows modulus n (mixedAt modulus n (rowsAt n (before rows)) (before mine) (before permutations)) (after out) ⌝ }
 {
     let mut k: usize = 0;
     while k < 3 {
@@ -152,7 +153,7 @@ pub fn mix_list(
     out: &mut [u32],
 )
     requires { ⌜ ListReady modulus n (now rows) (now mine) (now permutations) (length (now out)) ⌝ }
-    ensures { λ _. ⌜ Rows modulus n (mixedAt modulus n (rowsAt n (now (rows .entry))) (now (mine .entry)) (now (permutations .entry))) (now (out .exit)) ⌝ }
+    ensures { λ _. ⌜ Rows modulus n (mixedAt modulus n (rowsAt n (before rows)) (before mine) (before permutations)) (after out) ⌝ }
 {
     let mut offsets = [0u32; 1024];
     let mut between = [0u32; 1024];
@@ -171,7 +172,7 @@ pub fn mix_list(
 // The ballot that a place of the list holds.
 fn source_of(n: usize, permutations: &[u16], i: usize) -> usize
     requires { ⌜ PermutationsReady n (now permutations) × (i < n) ⌝ }
-    ensures { λ r. ⌜ (r ≡ sourceAt n (now (permutations .entry)) i) × (r < n) ⌝ }
+    ensures { λ r. ⌜ (r ≡ sourceAt n (before permutations) i) × (r < n) ⌝ }
 {
     let third = permutations[2 * n + i] as usize;
     let second = permutations[n + third] as usize;
@@ -181,7 +182,7 @@ fn source_of(n: usize, permutations: &[u16], i: usize) -> usize
 // The place of each ballot in the list.
 pub fn fill_positions(n: usize, permutations: &[u16], out: &mut [u32])
     requires { ⌜ PermutationsReady n (now permutations) × (length (now out) ≡ n) ⌝ }
-    ensures { λ _. ⌜ (length (now (out .exit)) ≡ n) × ((j : ℕ) → j < n → item (now (out .exit)) j ≡ whence (sourceAt n (now (permutations .entry))) j n) ⌝ }
+    ensures { λ _. ⌜ (length (after out) ≡ n) × ((j : ℕ) → j < n → item (after out) j ≡ whence (sourceAt n (before permutations)) j n) ⌝ }
 {
     let mut i: usize = 0;
     while i < n {

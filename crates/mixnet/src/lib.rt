@@ -3,6 +3,7 @@
 ghost use mathlib.Core.Path.{_≡_};
 ghost use Prim.Native.Nat.{_+_, _<_};
 ghost use lib.ListN.{length};
+ghost use Rattle.laws.specs.Lent.{before, after};
 ghost use Rattle.protocol.specs.Columns.{rowServer, thirdOffsets, secondHalves, rowRefusal, pairRefusal};
 ghost use Rattle.protocol.specs.Inputs.{writtenOf, afterwards};
 ghost use Rattle.mixnet.specs.Ready.{RowReady, PairReady};
@@ -11,7 +12,7 @@ use protocol::Written;
 // Adds the offsets to a row and takes place i from place perm(i).
 pub fn mix_row(modulus: u32, numbers: &[u32], offsets: &[u32], permutation: &[u16], out: &mut [u32])
     requires { ⌜ RowReady modulus (now numbers) (now offsets) (now permutation) (length (now out)) ⌝ }
-    ensures { λ _. ⌜ now (out .exit) ≡ rowServer modulus (now (numbers .entry)) (now (offsets .entry)) (now (permutation .entry)) ⌝ }
+    ensures { λ _. ⌜ after out ≡ rowServer modulus (before numbers) (before offsets) (before permutation) ⌝ }
 {
     let n = numbers.len();
     let mut i: usize = 0;
@@ -25,7 +26,7 @@ pub fn mix_row(modulus: u32, numbers: &[u32], offsets: &[u32], permutation: &[u1
 // Row three's offset at each place: with those of rows one and two it makes 0.
 fn third_row(modulus: u32, first: &[u32], second: &[u32], out: &mut [u32])
     requires { ⌜ PairReady modulus (now first) (now second) (length (now out)) ⌝ }
-    ensures { λ _. ⌜ now (out .exit) ≡ thirdOffsets modulus (now (first .entry)) (now (second .entry)) ⌝ }
+    ensures { λ _. ⌜ after out ≡ thirdOffsets modulus (before first) (before second) ⌝ }
 {
     let n = first.len();
     let mut i: usize = 0;
@@ -39,7 +40,7 @@ fn third_row(modulus: u32, first: &[u32], second: &[u32], out: &mut [u32])
 // The second halves of a row: each number less its first half.
 fn split_row(modulus: u32, numbers: &[u32], first_halves: &[u32], out: &mut [u32])
     requires { ⌜ PairReady modulus (now numbers) (now «first_halves») (length (now out)) ⌝ }
-    ensures { λ _. ⌜ now (out .exit) ≡ secondHalves modulus (now (numbers .entry)) (now («first_halves» .entry)) ⌝ }
+    ensures { λ _. ⌜ after out ≡ secondHalves modulus (before numbers) (before «first_halves») ⌝ }
 {
     let n = numbers.len();
     let mut i: usize = 0;
@@ -58,7 +59,7 @@ fn refuse_row(
     permutation: &[u16],
     out_len: usize,
 ) -> u32
-    ensures { λ r. ⌜ r ≡ rowRefusal modulus n (now (numbers .entry)) (now (offsets .entry)) (now (permutation .entry)) «out_len» ⌝ }
+    ensures { λ r. ⌜ r ≡ rowRefusal modulus n (before numbers) (before offsets) (before permutation) «out_len» ⌝ }
 {
     if !inputs::modulus_in_limits(modulus) {
         return 3;
@@ -93,7 +94,7 @@ fn refuse_row(
 
 // What the other two refuse, by number.
 fn refuse_pair(modulus: u32, n: u32, first: &[u32], second: &[u32], out_len: usize) -> u32
-    ensures { λ r. ⌜ r ≡ pairRefusal modulus n (now (first .entry)) (now (second .entry)) «out_len» ⌝ }
+    ensures { λ r. ⌜ r ≡ pairRefusal modulus n (before first) (before second) «out_len» ⌝ }
 {
     if !inputs::modulus_in_limits(modulus) {
         return 3;
@@ -129,8 +130,8 @@ pub fn row_server(
     permutation: &[u16],
     out: &mut [u32],
 ) -> Written
-    ensures answer { λ r. ⌜ r ≡ writtenOf (rowRefusal modulus n (now (numbers .entry)) (now (offsets .entry)) (now (permutation .entry)) (length (now (out .entry)))) ⌝ }
-    ensures output { λ _. ⌜ now (out .exit) ≡ afterwards (rowRefusal modulus n (now (numbers .entry)) (now (offsets .entry)) (now (permutation .entry)) (length (now (out .entry)))) (now (out .entry)) (rowServer modulus (now (numbers .entry)) (now (offsets .entry)) (now (permutation .entry))) ⌝ }
+    ensures answer { λ r. ⌜ r ≡ writtenOf (rowRefusal modulus n (before numbers) (before offsets) (before permutation) (length (before out))) ⌝ }
+    ensures output { λ _. ⌜ after out ≡ afterwards (rowRefusal modulus n (before numbers) (before offsets) (before permutation) (length (before out))) (before out) (rowServer modulus (before numbers) (before offsets) (before permutation)) ⌝ }
 {
     let k = refuse_row(modulus, n, numbers, offsets, permutation, out.len());
     if k != 0 {
@@ -148,8 +149,8 @@ pub fn third_row_offsets(
     second: &[u32],
     out: &mut [u32],
 ) -> Written
-    ensures answer { λ r. ⌜ r ≡ writtenOf (pairRefusal modulus n (now (first .entry)) (now (second .entry)) (length (now (out .entry)))) ⌝ }
-    ensures output { λ _. ⌜ now (out .exit) ≡ afterwards (pairRefusal modulus n (now (first .entry)) (now (second .entry)) (length (now (out .entry)))) (now (out .entry)) (thirdOffsets modulus (now (first .entry)) (now (second .entry))) ⌝ }
+    ensures answer { λ r. ⌜ r ≡ writtenOf (pairRefusal modulus n (before first) (before second) (length (before out))) ⌝ }
+    ensures output { λ _. ⌜ after out ≡ afterwards (pairRefusal modulus n (before first) (before second) (length (before out))) (before out) (thirdOffsets modulus (before first) (before second)) ⌝ }
 {
     let k = refuse_pair(modulus, n, first, second, out.len());
     if k != 0 {
@@ -167,8 +168,8 @@ pub fn split(
     first_halves: &[u32],
     out: &mut [u32],
 ) -> Written
-    ensures answer { λ r. ⌜ r ≡ writtenOf (pairRefusal modulus n (now (numbers .entry)) (now («first_halves» .entry)) (length (now (out .entry)))) ⌝ }
-    ensures output { λ _. ⌜ now (out .exit) ≡ afterwards (pairRefusal modulus n (now (numbers .entry)) (now («first_halves» .entry)) (length (now (out .entry)))) (now (out .entry)) (secondHalves modulus (now (numbers .entry)) (now («first_halves» .entry))) ⌝ }
+    ensures answer { λ r. ⌜ r ≡ writtenOf (pairRefusal modulus n (before numbers) (before «first_halves») (length (before out))) ⌝ }
+    ensures output { λ _. ⌜ after out ≡ afterwards (pairRefusal modulus n (before numbers) (before «first_halves») (length (before out))) (before out) (secondHalves modulus (before numbers) (before «first_halves»)) ⌝ }
 {
     let k = refuse_pair(modulus, n, numbers, first_halves, out.len());
     if k != 0 {

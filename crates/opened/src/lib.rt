@@ -2,6 +2,7 @@
 ghost use mathlib.Core.List.{[]};
 ghost use Prim.Native.Nat.{_+_, _-_, _*_, _≤_};
 ghost use lib.ListN.{length};
+ghost use Rattle.laws.specs.Lent.{before, after};
 ghost use Rattle.laws.specs.Masks.{bit};
 ghost use Rattle.laws.specs.Tests.{choose};
 ghost use Rattle.laws.specs.Writing.{Went};
@@ -21,7 +22,7 @@ fn put_full(
     keys: &[u8],
 ) -> usize
     requires { ⌜ ListReady modulus n (now mixed) (now numbers) l × (KeysReady n l (now keys) × (at + n * 220 ≤ length (now out))) ⌝ }
-    ensures { λ r. ⌜ Went (now (out .entry)) at (fullIn modulus n (now (mixed .entry)) (now (numbers .entry)) (now (keys .entry)) l n) (now (out .exit)) r ⌝ }
+    ensures { λ r. ⌜ Went (before out) at (fullIn modulus n (before mixed) (before numbers) (before keys) l n) (after out) r ⌝ }
 {
     let mut next = at;
     let mut i: usize = 0;
@@ -48,7 +49,7 @@ fn put_if_opened(
     keys: &[u8],
 ) -> usize
     requires { ⌜ ListReady modulus n (now mixed) (now numbers) l × (KeysReady n l (now keys) × (at + (1 - bit mask l) * (n * 220) ≤ length (now out))) ⌝ }
-    ensures { λ r. ⌜ Went (now (out .entry)) at (choose (bit mask l) (fullIn modulus n (now (mixed .entry)) (now (numbers .entry)) (now (keys .entry)) l n) []) (now (out .exit)) r ⌝ }
+    ensures { λ r. ⌜ Went (before out) at (choose (bit mask l) (fullIn modulus n (before mixed) (before numbers) (before keys) l n) []) (after out) r ⌝ }
 {
     if (mask >> (l as u32)) % 2 != 0 {
         return at;
@@ -67,7 +68,7 @@ pub fn put_opened(
     keys: &[u8],
 ) -> usize
     requires { ⌜ OpenedReady p mask (now mixed) (now numbers) (now keys) × (at + p .compared * (p .ballots * 220) ≤ length (now out)) ⌝ }
-    ensures { λ r. ⌜ Went (now (out .entry)) at (openedIn p mask (now (mixed .entry)) (now (numbers .entry)) (now (keys .entry))) (now (out .exit)) r ⌝ }
+    ensures { λ r. ⌜ Went (before out) at (openedIn p mask (before mixed) (before numbers) (before keys)) (after out) r ⌝ }
 {
     let lists = 2 * p.compared;
     let mut next = at;

@@ -4,6 +4,7 @@ ghost use mathlib.Core.Bool.{true};
 ghost use mathlib.Core.Path.{_≡_};
 ghost use Prim.Native.Nat.{ℕ, _+_, _*_, _≤_, _<_};
 ghost use lib.ListN.{length};
+ghost use Rattle.laws.specs.Lent.{before, after};
 ghost use Rattle.laws.specs.Tests.{every};
 ghost use Rattle.laws.specs.Bytes.{number};
 ghost use Rattle.laws.specs.Chunks.{piece};
@@ -17,7 +18,7 @@ use protocol::Parameters;
 // Whether the numbers of k openings, one behind the other, are below the modulus.
 fn numbers_below(bytes: &[u8], at: usize, k: usize, modulus: u32) -> bool
     requires { ⌜ (k ≤ 6) × (at + 36 * k ≤ length (now bytes)) ⌝ }
-    ensures { λ r. ⌜ r ≡ numbersBelow modulus (openingAt (now (bytes .entry)) at) k ⌝ }
+    ensures { λ r. ⌜ r ≡ numbersBelow modulus (openingAt (before bytes) at) k ⌝ }
 {
     let mut i: usize = 0;
     while i < k {
@@ -33,7 +34,7 @@ fn numbers_below(bytes: &[u8], at: usize, k: usize, modulus: u32) -> bool
 // commitment does not depend on its place (`commitment` in `Terms`).
 fn openings_give(bytes: &[u8], at: usize, posted: usize, step: usize, k: usize) -> bool
     requires { ⌜ Openings (now bytes) at posted step k ⌝ }
-    ensures { λ r. ⌜ ((place : ℕ → Place) → r ≡ every (λ i. gives (place i) (openingAt (now (bytes .entry)) at i) (piece (now (bytes .entry)) (posted + step * i) 32)) k) ⌝ }
+    ensures { λ r. ⌜ ((place : ℕ → Place) → r ≡ every (λ i. gives (place i) (openingAt (before bytes) at i) (piece (before bytes) (posted + step * i) 32)) k) ⌝ }
 {
     let mut i: usize = 0;
     while i < k {
@@ -48,7 +49,7 @@ fn openings_give(bytes: &[u8], at: usize, posted: usize, step: usize, k: usize) 
 // The numbers of three openings, summed.
 fn sum_of_three(bytes: &[u8], at: usize, modulus: u32) -> u32
     requires { ⌜ (at + 108 ≤ length (now bytes)) × (numbersBelow modulus (openingAt (now bytes) at) 3 ≡ true) ⌝ }
-    ensures { λ r. ⌜ (r ≡ sumOfThree modulus (openingAt (now (bytes .entry)) at)) × (r < modulus) ⌝ }
+    ensures { λ r. ⌜ (r ≡ sumOfThree modulus (openingAt (before bytes) at)) × (r < modulus) ⌝ }
 {
     let two = modular::plus(
         modulus,
@@ -61,7 +62,7 @@ fn sum_of_three(bytes: &[u8], at: usize, modulus: u32) -> u32
 // The numbers of six openings, summed.
 fn sum_of_six(bytes: &[u8], at: usize, modulus: u32) -> u32
     requires { ⌜ (at + 216 ≤ length (now bytes)) × (numbersBelow modulus (openingAt (now bytes) at) 6 ≡ true) ⌝ }
-    ensures { λ r. ⌜ (r ≡ sumOfSix modulus (openingAt (now (bytes .entry)) at)) × (r < modulus) ⌝ }
+    ensures { λ r. ⌜ (r ≡ sumOfSix modulus (openingAt (before bytes) at)) × (r < modulus) ⌝ }
 {
     let three = sum_of_three(bytes, at, modulus);
     let four = modular::plus(modulus, three, wire::read4(bytes, at + 140));
@@ -79,7 +80,7 @@ pub fn ballot_half_rules(
     q: &[u8; 86],
 ) -> u32
     requires { ⌜ BallotHalfReady p (now bytes) at j drawn (now q) ⌝ }
-    ensures { λ k. ⌜ k ≡ ballotHalfRules p (now (bytes .entry)) drawn j ⌝ }
+    ensures { λ k. ⌜ k ≡ ballotHalfRules p (before bytes) drawn j ⌝ }
 {
     if wire::read2(bytes, at + 1) as usize != j {
         return 4;
@@ -125,7 +126,7 @@ pub fn list_half_rules(
     rank: usize,
 ) -> u32
     requires { ⌜ ListHalfReady p (now bytes) at l j rank ⌝ }
-    ensures { λ k. ⌜ k ≡ listHalfRules p (now (bytes .entry)) l j ⌝ }
+    ensures { λ k. ⌜ k ≡ listHalfRules p (before bytes) l j ⌝ }
 {
     if wire::read1(bytes, at + 1) as usize != l {
         return 4;
@@ -155,7 +156,7 @@ pub fn list_half_rules(
 // The values of an opened list, whose full openings start at a place, one behind the other.
 fn fill_values(bytes: &[u8], at: usize, modulus: u32, out: &mut [u32])
     requires { ⌜ ListReady (now bytes) at modulus (length (now out)) ⌝ }
-    ensures { λ _. ⌜ now (out .exit) ≡ tabulate (λ i. sumOfSix modulus (openingAt (now (bytes .entry)) (at + 220 * i + 4))) (length (now (out .entry))) ⌝ }
+    ensures { λ _. ⌜ after out ≡ tabulate (λ i. sumOfSix modulus (openingAt (before bytes) (at + 220 * i + 4))) (length (before out)) ⌝ }
 {
     let n = out.len();
     let mut i: usize = 0;
@@ -168,7 +169,7 @@ fn fill_values(bytes: &[u8], at: usize, modulus: u32, out: &mut [u32])
 // The announced votes, whose commands start at a place, one behind the other.
 pub fn fill_votes(bytes: &[u8], at: usize, out: &mut [u32])
     requires { ⌜ (length (now out) ≤ mostBallots) × (at + 7 * length (now out) ≤ length (now bytes)) ⌝ }
-    ensures { λ _. ⌜ now (out .exit) ≡ tabulate (λ i. number (now (bytes .entry)) (at + 7 * i + 3) 4) (length (now (out .entry))) ⌝ }
+    ensures { λ _. ⌜ after out ≡ tabulate (λ i. number (before bytes) (at + 7 * i + 3) 4) (length (before out)) ⌝ }
 {
     let n = out.len();
     let mut i: usize = 0;
@@ -189,7 +190,7 @@ fn permutes_with(
     votes: &mut [u32],
 ) -> bool
     requires { ⌜ PermutesReady (now bytes) at announced modulus (length (now values)) (length (now votes)) ⌝ }
-    ensures { λ r. ⌜ r ≡ permutes (λ i. sumOfSix modulus (openingAt (now (bytes .entry)) (at + 220 * i + 4))) (λ i. number (now (bytes .entry)) (announced + 7 * i + 3) 4) (length (now (values .entry))) ⌝ }
+    ensures { λ r. ⌜ r ≡ permutes (λ i. sumOfSix modulus (openingAt (before bytes) (at + 220 * i + 4))) (λ i. number (before bytes) (announced + 7 * i + 3) 4) (length (before values)) ⌝ }
 {
     fill_values(bytes, at, modulus, values);
     fill_votes(bytes, announced, votes);
@@ -199,7 +200,7 @@ fn permutes_with(
 // .. with room for both.
 fn list_permutes(bytes: &[u8], at: usize, announced: usize, modulus: u32, n: usize) -> bool
     requires { ⌜ PermutesReady (now bytes) at announced modulus n n ⌝ }
-    ensures { λ r. ⌜ r ≡ permutes (λ i. sumOfSix modulus (openingAt (now (bytes .entry)) (at + 220 * i + 4))) (λ i. number (now (bytes .entry)) (announced + 7 * i + 3) 4) n ⌝ }
+    ensures { λ r. ⌜ r ≡ permutes (λ i. sumOfSix modulus (openingAt (before bytes) (at + 220 * i + 4))) (λ i. number (before bytes) (announced + 7 * i + 3) 4) n ⌝ }
 {
     let mut values = [0u32; 1024];
     let mut votes = [0u32; 1024];
@@ -216,7 +217,7 @@ fn list_permutes(bytes: &[u8], at: usize, announced: usize, modulus: u32, n: usi
 // 0A: list and position, 4; the numbers, 10; the openings, 13; at the list's last position its values, 16.
 pub fn full_rules(p: Parameters, bytes: &[u8], at: usize, l: usize, i: usize) -> u32
     requires { ⌜ FullReady p (now bytes) at l i ⌝ }
-    ensures { λ k. ⌜ k ≡ fullRules p (now (bytes .entry)) l i ⌝ }
+    ensures { λ k. ⌜ k ≡ fullRules p (before bytes) l i ⌝ }
 {
     if wire::read1(bytes, at + 1) as usize != l {
         return 4;

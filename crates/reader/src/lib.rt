@@ -1,5 +1,6 @@
 // The command reader: each command byte leads to its own rule, and every byte not due is refused.
 ghost use mathlib.Core.Path.{_≡_};
+ghost use Rattle.laws.specs.Lent.{before};
 ghost use Rattle.protocol.specs.Rules.{placeOf, fault};
 ghost use Rattle.protocol.specs.Judging.{found};
 ghost use Rattle.reader.specs.Ready.{Ready};
@@ -26,7 +27,7 @@ fn command(
     marks: &[bool; 1024],
 ) -> u32
     requires { ⌜ (at ≡ placeOf (c .parameters) (now bytes) due) × Ready (c .parameters) (now bytes) (c .drawn) (c .rank) (now text) (now marks) due ⌝ }
-    ensures { λ k. ⌜ k ≡ fault (c .parameters) (now (bytes .entry)) (c .drawn) due ⌝ }
+    ensures { λ k. ⌜ k ≡ fault (c .parameters) (before bytes) (c .drawn) due ⌝ }
 {
     if bytes.len() <= at {
         return 1;
@@ -156,7 +157,7 @@ fn read<'a, 'b, 'c>(
 // One command through the reader. Its parameters are plain, so whoever calls it needs nothing of the reader's.
 fn step(bytes: &[u8], at: usize, due: Due, c: Context, text: &[u8; 86], marks: &[bool; 1024]) -> u32
     requires { ⌜ (at ≡ placeOf (c .parameters) (now bytes) due) × Ready (c .parameters) (now bytes) (c .drawn) (c .rank) (now text) (now marks) due ⌝ }
-    ensures { λ k. ⌜ k ≡ fault (c .parameters) (now (bytes .entry)) (c .drawn) due ⌝ }
+    ensures { λ k. ⌜ k ≡ fault (c .parameters) (before bytes) (c .drawn) due ⌝ }
 {
     read(Reader { bytes, at }, due, c, text, marks)
 }
@@ -174,7 +175,7 @@ pub fn command_fault(
     marks: &[bool; 1024],
 ) -> Found
     requires { ⌜ (at ≡ placeOf p (now bytes) due) × Ready p (now bytes) drawn rank (now text) (now marks) due ⌝ }
-    ensures { λ r. ⌜ r ≡ found drawn p (now (bytes .entry)) due ⌝ }
+    ensures { λ r. ⌜ r ≡ found drawn p (before bytes) due ⌝ }
 {
     let c = Context {
         parameters: p,

@@ -4,6 +4,7 @@ ghost use mathlib.Core.Bool.{true};
 ghost use mathlib.Core.Path.{_≡_};
 ghost use Prim.Native.Nat.{ℕ, _≤_};
 ghost use lib.ListN.{length};
+ghost use Rattle.laws.specs.Lent.{before};
 ghost use Rattle.laws.specs.Tests.{equal, atMost, _and_};
 ghost use Rattle.laws.specs.Faults.{rule, kept};
 ghost use Rattle.protocol.specs.Terms.{mostBallots, inLimits};
@@ -41,7 +42,7 @@ fn refuse(
     shape: bool,
     binary: bool,
 ) -> u32
-    ensures { λ r. ⌜ r ≡ refusal (given modulus ballots compared (now (ids .entry)) (now (votes .entry)) (now (numbers .entry)) (now (permutations .entry)) (now (keys .entry))) lengths fair shape binary ⌝ }
+    ensures { λ r. ⌜ r ≡ refusal (given modulus ballots compared (before ids) (before votes) (before numbers) (before permutations) (before keys)) lengths fair shape binary ⌝ }
 {
     let k = refuse_lengths(modulus, ballots, compared, lengths);
     if k != 0 {
@@ -121,7 +122,7 @@ fn part_three_length(ballots: u32, compared: u32) -> usize
 
 // Whether 30 dice are fair.
 fn fair_of(dice: &[u8]) -> bool
-    ensures { λ r. ⌜ (length (now (dice .entry)) ≡ 30 → r ≡ fairDice (now (dice .entry))) ⌝ }
+    ensures { λ r. ⌜ (length (before dice) ≡ 30 → r ≡ fairDice (before dice)) ⌝ }
 {
     if dice.len() != 30 {
         return false;
@@ -151,7 +152,7 @@ pub fn part_one(
     keys: &[u8],
     out_len: usize,
 ) -> u32
-    ensures { λ r. ⌜ r ≡ partOneRefusal (given modulus ballots compared (now (ids .entry)) (now (votes .entry)) (now (numbers .entry)) (now (permutations .entry)) (now (keys .entry))) «out_len» ⌝ }
+    ensures { λ r. ⌜ r ≡ partOneRefusal (given modulus ballots compared (before ids) (before votes) (before numbers) (before permutations) (before keys)) «out_len» ⌝ }
 {
     refuse(
         modulus,
@@ -183,7 +184,7 @@ pub fn part_two(
     mask: u32,
     out_len: usize,
 ) -> u32
-    ensures { λ r. ⌜ r ≡ partTwoRefusal (given modulus ballots compared (now (ids .entry)) (now (votes .entry)) (now (numbers .entry)) (now (permutations .entry)) (now (keys .entry))) (now (dice .entry)) mask «out_len» ⌝ }
+    ensures { λ r. ⌜ r ≡ partTwoRefusal (given modulus ballots compared (before ids) (before votes) (before numbers) (before permutations) (before keys)) (before dice) mask «out_len» ⌝ }
 {
     let two = out_len == part_two_length(ballots, compared);
     refuse(
@@ -216,7 +217,7 @@ pub fn part_two_drawn(
     one_len: usize,
     out_len: usize,
 ) -> u32
-    ensures { λ r. ⌜ r ≡ partTwoDrawnRefusal (given modulus ballots compared (now (ids .entry)) (now (votes .entry)) (now (numbers .entry)) (now (permutations .entry)) (now (keys .entry))) (now (dice .entry)) «one_len» «out_len» ⌝ }
+    ensures { λ r. ⌜ r ≡ partTwoDrawnRefusal (given modulus ballots compared (before ids) (before votes) (before numbers) (before permutations) (before keys)) (before dice) «one_len» «out_len» ⌝ }
 {
     let one = one_len == part_one_length(modulus, ballots, compared);
     let two = out_len == part_two_length(ballots, compared);
@@ -251,7 +252,7 @@ pub fn part_three_shaped(
     sides: &[u8],
     out_len: usize,
 ) -> u32
-    ensures { λ r. ⌜ r ≡ refusal (given modulus ballots compared (now (ids .entry)) (now (votes .entry)) (now (numbers .entry)) (now (permutations .entry)) (now (keys .entry))) (equal (length (now (dice .entry))) 30 and equal (length (now (sides .entry))) ballots and equal «out_len» (partThreeLength (parametersFor (given modulus ballots compared (now (ids .entry)) (now (votes .entry)) (now (numbers .entry)) (now (permutations .entry)) (now (keys .entry)))))) (fairDice (now (dice .entry))) shape (binarySides (given modulus ballots compared (now (ids .entry)) (now (votes .entry)) (now (numbers .entry)) (now (permutations .entry)) (now (keys .entry))) (now (sides .entry))) ⌝ }
+    ensures { λ r. ⌜ r ≡ refusal (given modulus ballots compared (before ids) (before votes) (before numbers) (before permutations) (before keys)) (equal (length (before dice)) 30 and equal (length (before sides)) ballots and equal «out_len» (partThreeLength (parametersFor (given modulus ballots compared (before ids) (before votes) (before numbers) (before permutations) (before keys))))) (fairDice (before dice)) shape (binarySides (given modulus ballots compared (before ids) (before votes) (before numbers) (before permutations) (before keys)) (before sides)) ⌝ }
 {
     let each = sides.len() == ballots as usize;
     let three = out_len == part_three_length(ballots, compared);
@@ -287,7 +288,7 @@ pub fn part_three_drawn_shaped(
     two_len: usize,
     out_len: usize,
 ) -> u32
-    ensures { λ r. ⌜ r ≡ refusal (given modulus ballots compared (now (ids .entry)) (now (votes .entry)) (now (numbers .entry)) (now (permutations .entry)) (now (keys .entry))) (equal (length (now (dice .entry))) 30 and equal «one_len» (partOneLength (parametersFor (given modulus ballots compared (now (ids .entry)) (now (votes .entry)) (now (numbers .entry)) (now (permutations .entry)) (now (keys .entry))))) and equal «two_len» (partTwoLength (parametersFor (given modulus ballots compared (now (ids .entry)) (now (votes .entry)) (now (numbers .entry)) (now (permutations .entry)) (now (keys .entry))))) and equal «out_len» (partThreeLength (parametersFor (given modulus ballots compared (now (ids .entry)) (now (votes .entry)) (now (numbers .entry)) (now (permutations .entry)) (now (keys .entry)))))) (fairDice (now (dice .entry))) shape true ⌝ }
+    ensures { λ r. ⌜ r ≡ refusal (given modulus ballots compared (before ids) (before votes) (before numbers) (before permutations) (before keys)) (equal (length (before dice)) 30 and equal «one_len» (partOneLength (parametersFor (given modulus ballots compared (before ids) (before votes) (before numbers) (before permutations) (before keys)))) and equal «two_len» (partTwoLength (parametersFor (given modulus ballots compared (before ids) (before votes) (before numbers) (before permutations) (before keys)))) and equal «out_len» (partThreeLength (parametersFor (given modulus ballots compared (before ids) (before votes) (before numbers) (before permutations) (before keys))))) (fairDice (before dice)) shape true ⌝ }
 {
     let one = one_len == part_one_length(modulus, ballots, compared);
     let two = two_len == part_two_length(ballots, compared);
@@ -323,7 +324,7 @@ pub fn part_three(
     sides: &[u8],
     out_len: usize,
 ) -> u32
-    ensures { λ r. ⌜ r ≡ partThreeRefusal (given modulus ballots compared (now (ids .entry)) (now (votes .entry)) (now (numbers .entry)) (now (permutations .entry)) (now (keys .entry))) (now (dice .entry)) mask (now (sides .entry)) «out_len» ⌝ }
+    ensures { λ r. ⌜ r ≡ partThreeRefusal (given modulus ballots compared (before ids) (before votes) (before numbers) (before permutations) (before keys)) (before dice) mask (before sides) «out_len» ⌝ }
 {
     part_three_shaped(
         modulus,
@@ -357,7 +358,7 @@ pub fn part_three_drawn(
     two_len: usize,
     out_len: usize,
 ) -> u32
-    ensures { λ r. ⌜ r ≡ partThreeDrawnRefusal (given modulus ballots compared (now (ids .entry)) (now (votes .entry)) (now (numbers .entry)) (now (permutations .entry)) (now (keys .entry))) (now (dice .entry)) mask «one_len» «two_len» «out_len» ⌝ }
+    ensures { λ r. ⌜ r ≡ partThreeDrawnRefusal (given modulus ballots compared (before ids) (before votes) (before numbers) (before permutations) (before keys)) (before dice) mask «one_len» «two_len» «out_len» ⌝ }
 {
     part_three_drawn_shaped(
         modulus,
@@ -378,7 +379,7 @@ pub fn part_three_drawn(
 
 // The draw of a mask alone.
 pub fn draw(modulus: u32, ballots: u32, compared: u32, dice: &[u8], one_len: usize) -> u32
-    ensures { λ r. ⌜ r ≡ drawRefusal (record { modulus = modulus; ballots = ballots; compared = compared }) (now (dice .entry)) «one_len» ⌝ }
+    ensures { λ r. ⌜ r ≡ drawRefusal (record { modulus = modulus; ballots = ballots; compared = compared }) (before dice) «one_len» ⌝ }
 {
     let one = one_len == part_one_length(modulus, ballots, compared);
     let k = refuse_lengths(modulus, ballots, compared, both(dice.len() == 30, one));

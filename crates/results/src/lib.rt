@@ -4,6 +4,7 @@ ghost use mathlib.Core.Path.{_≡_};
 ghost use Prim.Native.Nat.{suc, _+_, _≤_};
 ghost use lib.ListN.{length};
 ghost use Rattle.laws.specs.Bytes.{number};
+ghost use Rattle.laws.specs.Lent.{before, after};
 ghost use Rattle.laws.specs.Tests.{equal, atMost, pick};
 ghost use Rattle.protocol.specs.Record.{parametersOf, idOf};
 ghost use Rattle.protocol.specs.Inputs.{writtenOf, afterwards};
@@ -17,7 +18,7 @@ use protocol::Written;
 
 // The number of ballots that a record's first command says; 0 where that command is not whole.
 pub fn ballots(bytes: &[u8]) -> usize
-    ensures { λ r. ⌜ r ≡ pick (atMost 8 (length (now (bytes .entry)))) (parametersOf (now (bytes .entry)) .ballots) 0 ⌝ }
+    ensures { λ r. ⌜ r ≡ pick (atMost 8 (length (before bytes))) (parametersOf (before bytes) .ballots) 0 ⌝ }
 {
     if bytes.len() < 8 {
         return 0;
@@ -28,7 +29,7 @@ pub fn ballots(bytes: &[u8]) -> usize
 // The answer at a ballot with the printed id: posted as printed, or otherwise.
 fn receipt_at(bytes: &[u8], p: Parameters, printed: &[u8], j: usize) -> Receipt
     requires { ⌜ BallotsReady p (now bytes) (now printed) × (suc j ≤ p .ballots) ⌝ }
-    ensures { λ r. ⌜ r ≡ definitions.receiptAt p (now (bytes .entry)) (now (printed .entry)) j ⌝ }
+    ensures { λ r. ⌜ r ≡ definitions.receiptAt p (before bytes) (before printed) j ⌝ }
 {
     let at = layout::at_ballot(p, j);
     let to = at + 197;
@@ -43,7 +44,7 @@ fn receipt_at(bytes: &[u8], p: Parameters, printed: &[u8], j: usize) -> Receipt
 // The answer of the first j ballots and ballot j.
 fn receipt_with(bytes: &[u8], p: Parameters, printed: &[u8], j: usize, before: Receipt) -> Receipt
     requires { ⌜ BallotsReady p (now bytes) (now printed) × (suc j ≤ p .ballots) ⌝ }
-    ensures { λ r. ⌜ r ≡ pick (equal (idOf p (now (bytes .entry)) j) (number (now (printed .entry)) 0 4)) (definitions.receiptAt p (now (bytes .entry)) (now (printed .entry)) j) before ⌝ }
+    ensures { λ r. ⌜ r ≡ pick (equal (idOf p (before bytes) j) (number (before printed) 0 4)) (definitions.receiptAt p (before bytes) (before printed) j) before ⌝ }
 {
     if wire::read4(bytes, layout::at_ballot(p, j) + 1) == wire::read4(printed, 0) {
         return receipt_at(bytes, p, printed, j);
@@ -54,7 +55,7 @@ fn receipt_with(bytes: &[u8], p: Parameters, printed: &[u8], j: usize, before: R
 // The answer among all ballots.
 fn receipt_among(bytes: &[u8], p: Parameters, printed: &[u8]) -> Receipt
     requires { ⌜ BallotsReady p (now bytes) (now printed) ⌝ }
-    ensures { λ r. ⌜ r ≡ definitions.receiptAmong p (now (bytes .entry)) (now (printed .entry)) (p .ballots) ⌝ }
+    ensures { λ r. ⌜ r ≡ definitions.receiptAmong p (before bytes) (before printed) (p .ballots) ⌝ }
 {
     let n = p.ballots;
     let mut answer = Receipt::NotPosted;
@@ -69,7 +70,7 @@ fn receipt_among(bytes: &[u8], p: Parameters, printed: &[u8]) -> Receipt
 
 // Entry: whether a receipt is posted as printed.
 pub fn check_receipt(bytes: &[u8], printed: &[u8]) -> Receipt
-    ensures { λ r. ⌜ r ≡ definitions.receiptChecked (now (bytes .entry)) (now (printed .entry)) ⌝ }
+    ensures { λ r. ⌜ r ≡ definitions.receiptChecked (before bytes) (before printed) ⌝ }
 {
     if printed.len() != 32 {
         return Receipt::Refused(18);
@@ -82,8 +83,8 @@ pub fn check_receipt(bytes: &[u8], printed: &[u8]) -> Receipt
 
 // Entry: the votes that an accepted record announces, into a slice of one number a ballot.
 pub fn announced_votes(bytes: &[u8], out: &mut [u32]) -> Written
-    ensures answer { λ r. ⌜ r ≡ writtenOf (definitions.announcedRefusal (now (bytes .entry)) (length (now (out .entry)))) ⌝ }
-    ensures output { λ _. ⌜ now (out .exit) ≡ afterwards (definitions.announcedRefusal (now (bytes .entry)) (length (now (out .entry)))) (now (out .entry)) (definitions.announcedVotes (now (bytes .entry))) ⌝ }
+    ensures answer { λ r. ⌜ r ≡ writtenOf (definitions.announcedRefusal (before bytes) (length (before out))) ⌝ }
+    ensures output { λ _. ⌜ after out ≡ afterwards (definitions.announcedRefusal (before bytes) (length (before out))) (before out) (definitions.announcedVotes (before bytes)) ⌝ }
 {
     match verifier::first_fault(bytes, false) {
         Found::Fault(k, _) => Written::Refused(k),
@@ -94,8 +95,8 @@ pub fn announced_votes(bytes: &[u8], out: &mut [u32]) -> Written
 // The same of a record that is known to be accepted.
 fn write_votes(bytes: &[u8], out: &mut [u32]) -> Written
     requires { ⌜ firstFault false (now bytes) ≡ Found.Nothing ⌝ }
-    ensures answer { λ r. ⌜ r ≡ writtenOf (definitions.announcedRefusal (now (bytes .entry)) (length (now (out .entry)))) ⌝ }
-    ensures output { λ _. ⌜ now (out .exit) ≡ afterwards (definitions.announcedRefusal (now (bytes .entry)) (length (now (out .entry)))) (now (out .entry)) (definitions.announcedVotes (now (bytes .entry))) ⌝ }
+    ensures answer { λ r. ⌜ r ≡ writtenOf (definitions.announcedRefusal (before bytes) (length (before out))) ⌝ }
+    ensures output { λ _. ⌜ after out ≡ afterwards (definitions.announcedRefusal (before bytes) (length (before out))) (before out) (definitions.announcedVotes (before bytes)) ⌝ }
 {
     let p = verifier::parameters(bytes);
     if out.len() != p.ballots {

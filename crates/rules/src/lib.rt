@@ -4,6 +4,7 @@ ghost use mathlib.Core.Path.{_≡_};
 ghost use Prim.Native.Nat.{_+_, _*_, _≤_, _<_};
 ghost use lib.ListN.{length};
 ghost use Rattle.laws.specs.Chunks.{piece};
+ghost use Rattle.laws.specs.Lent.{before};
 ghost use Rattle.protocol.specs.Terms.{mostBallots};
 ghost use Rattle.protocol.specs.Layout.{atBallot, atEntry, atSecondDice, atVote};
 ghost use Rattle.protocol.specs.Record.{linkPlace};
@@ -14,7 +15,7 @@ use protocol::Parameters;
 // 01: M, n and m in their limits, 3.
 pub fn first_rules(bytes: &[u8]) -> u32
     requires { ⌜ 8 ≤ length (now bytes) ⌝ }
-    ensures { λ k. ⌜ k ≡ firstRules (now (bytes .entry)) ⌝ }
+    ensures { λ k. ⌜ k ≡ firstRules (before bytes) ⌝ }
 {
     let modulus = wire::read4(bytes, 1);
     if modulus < 2 {
@@ -40,7 +41,7 @@ pub fn first_rules(bytes: &[u8]) -> u32
 // 02: an id above the one before, 5.
 pub fn ballot_rules(p: Parameters, bytes: &[u8], at: usize, j: usize) -> u32
     requires { ⌜ (at ≡ atBallot p j) × (at + 197 ≤ length (now bytes)) ⌝ }
-    ensures { λ k. ⌜ k ≡ ballotRules p (now (bytes .entry)) j ⌝ }
+    ensures { λ k. ⌜ k ≡ ballotRules p (before bytes) j ⌝ }
 {
     if j == 0 {
         return 0;
@@ -56,7 +57,7 @@ pub fn ballot_rules(p: Parameters, bytes: &[u8], at: usize, j: usize) -> u32
 // 03: list and position, 4.
 pub fn entry_rules(p: Parameters, bytes: &[u8], at: usize, l: usize, i: usize) -> u32
     requires { ⌜ (at ≡ atEntry p l i) × (at + 196 ≤ length (now bytes)) ⌝ }
-    ensures { λ k. ⌜ k ≡ entryRules p (now (bytes .entry)) l i ⌝ }
+    ensures { λ k. ⌜ k ≡ entryRules p (before bytes) l i ⌝ }
 {
     if wire::read1(bytes, at + 1) as usize != l {
         return 4;
@@ -70,7 +71,7 @@ pub fn entry_rules(p: Parameters, bytes: &[u8], at: usize, l: usize, i: usize) -
 // Whether 30 characters are '1' to '6'.
 pub fn fair_dice(bytes: &[u8], at: usize) -> bool
     requires { ⌜ at + 30 ≤ length (now bytes) ⌝ }
-    ensures { λ r. ⌜ r ≡ fairDice (piece (now (bytes .entry)) at 30) ⌝ }
+    ensures { λ r. ⌜ r ≡ fairDice (piece (before bytes) at 30) ⌝ }
 {
     let mut i: usize = 0;
     while i < 30 {
@@ -100,7 +101,7 @@ pub fn right_shape(compared: usize, mask: u32) -> bool
 // 04: dice, 6; the mask's shape, 7; as drawn, the drawn mask, 8. `text` is what the mask is drawn from.
 pub fn first_dice_rules(p: Parameters, bytes: &[u8], at: usize, drawn: bool, text: &[u8; 86]) -> u32
     requires { ⌜ FirstDiceReady p (now bytes) at drawn (now text) ⌝ }
-    ensures { λ k. ⌜ k ≡ firstDiceRules p (now (bytes .entry)) drawn ⌝ }
+    ensures { λ k. ⌜ k ≡ firstDiceRules p (before bytes) drawn ⌝ }
 {
     if !fair_dice(bytes, at + 1) {
         return 6;
@@ -128,7 +129,7 @@ pub fn link_rules(
     marks: &[bool; 1024],
 ) -> u32
     requires { ⌜ (at ≡ linkPlace p (now bytes) l j) × ((at + 10 ≤ length (now bytes)) × ((p .ballots ≤ mostBallots) × Marked p (now bytes) l j (now marks))) ⌝ }
-    ensures { λ k. ⌜ k ≡ linkRules p (now (bytes .entry)) l j ⌝ }
+    ensures { λ k. ⌜ k ≡ linkRules p (before bytes) l j ⌝ }
 {
     if wire::read1(bytes, at + 1) as usize != l {
         return 4;
@@ -152,7 +153,7 @@ pub fn link_rules(
 // 06: dice, 6.
 pub fn second_dice_rules(p: Parameters, bytes: &[u8], at: usize) -> u32
     requires { ⌜ (at ≡ atSecondDice p) × (at + 31 ≤ length (now bytes)) ⌝ }
-    ensures { λ k. ⌜ k ≡ secondDiceRules p (now (bytes .entry)) ⌝ }
+    ensures { λ k. ⌜ k ≡ secondDiceRules p (before bytes) ⌝ }
 {
     let fair = fair_dice(bytes, at + 1);
     if !fair {
@@ -164,7 +165,7 @@ pub fn second_dice_rules(p: Parameters, bytes: &[u8], at: usize) -> u32
 // 09: index, 4; a number below M, 10; no smaller than the one before, 15.
 pub fn vote_rules(p: Parameters, bytes: &[u8], at: usize, i: usize) -> u32
     requires { ⌜ (at ≡ atVote p i) × (at + 7 ≤ length (now bytes)) ⌝ }
-    ensures { λ k. ⌜ k ≡ voteRules p (now (bytes .entry)) i ⌝ }
+    ensures { λ k. ⌜ k ≡ voteRules p (before bytes) i ⌝ }
 {
     if wire::read2(bytes, at + 1) as usize != i {
         return 4;

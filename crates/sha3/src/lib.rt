@@ -3,6 +3,7 @@ ghost use mathlib.Core.Path.{_≡_};
 ghost use mathlib.Core.List.{_++_};
 ghost use Prim.Native.Nat.{_+_, _≤_, _<_};
 ghost use lib.ListN.{length, take};
+ghost use Rattle.laws.specs.Lent.{before, after};
 ghost use Rattle.sha3.specs.Sha3.{Rate, xorByte, absorbBytes, empty, padded, squeeze, digest, sha3-224, sha3-256};
 ghost use Rattle.sha3.specs.Word.{wordAt, putLane};
 
@@ -15,7 +16,7 @@ pub struct Sponge {
 // The eight bytes from `at` on, as a number, the lowest first.
 fn word(p: &[u8], at: usize) -> u64
     requires { ⌜ at + 8 ≤ length (now p) ⌝ }
-    ensures { λ r. ⌜ r ≡ wordAt (now (p .entry)) at ⌝ }
+    ensures { λ r. ⌜ r ≡ wordAt (before p) at ⌝ }
 {
     let b0 = p[at] as u64;
     let b1 = p[at + 1] as u64;
@@ -31,7 +32,7 @@ fn word(p: &[u8], at: usize) -> u64
 // b is added to byte n of the state.
 fn xor_byte(l: &mut [u64; 25], n: usize, b: u8)
     requires { ⌜ n < 200 ⌝ }
-    ensures { λ _. ⌜ now (l .exit) ≡ xorByte (now (l .entry)) n b ⌝ }
+    ensures { λ _. ⌜ after l ≡ xorByte (before l) n b ⌝ }
 {
     let k = n / 8;
     l[k] = l[k] ^ ((b as u64) << (n % 8 * 8));
@@ -40,7 +41,7 @@ fn xor_byte(l: &mut [u64; 25], n: usize, b: u8)
 // More of the message. A lane that is due takes eight bytes at once.
 pub fn absorb(s: Sponge, rate: usize, p: &[u8]) -> Sponge
     requires { ⌜ Rate rate × (s .fill < rate) ⌝ }
-    ensures { λ r. ⌜ (r ≡ absorbBytes rate s (now (p .entry))) × (r .fill < rate) ⌝ }
+    ensures { λ r. ⌜ (r ≡ absorbBytes rate s (before p)) × (r .fill < rate) ⌝ }
 {
     let mut l = s.lanes;
     let mut fill = s.fill;
@@ -69,7 +70,7 @@ pub fn absorb(s: Sponge, rate: usize, p: &[u8]) -> Sponge
 // The eight bytes of a lane, the lowest first, go to `out` from `at` on.
 fn put_lane(out: &mut [u8], at: usize, lane: u64)
     requires { ⌜ at + 8 ≤ length (now out) ⌝ }
-    ensures { λ _. ⌜ now (out .exit) ≡ putLane (now (out .entry)) at lane 8 ⌝ }
+    ensures { λ _. ⌜ after out ≡ putLane (before out) at lane 8 ⌝ }
 {
     for j in 0..8 {
         out[at + j] = ((lane >> (j * 8)) & 255) as u8;
@@ -79,7 +80,7 @@ fn put_lane(out: &mut [u8], at: usize, lane: u64)
 // The bytes of the state from `from` on go to `out`, which has those before them.
 fn put_rest(v: &[u64; 25], from: usize, out: &mut [u8])
     requires { ⌜ (length (now out) ≤ 200) × ((from ≤ length (now out)) × (take from (now out) ≡ squeeze (now v) from)) ⌝ }
-    ensures { λ _. ⌜ now (out .exit) ≡ squeeze (now (v .entry)) (length (now (out .entry))) ⌝ }
+    ensures { λ _. ⌜ after out ≡ squeeze (before v) (length (before out)) ⌝ }
 {
     for i in from..out.len() {
         out[i] = ((v[i / 8] >> (i % 8 * 8)) & 255) as u8;
@@ -89,7 +90,7 @@ fn put_rest(v: &[u64; 25], from: usize, out: &mut [u8])
 // The first bytes of the state, as many as `out` has: whole lanes, and then the bytes of a last one that is cut.
 fn squeeze_into(v: &[u64; 25], out: &mut [u8])
     requires { ⌜ length (now out) ≤ 200 ⌝ }
-    ensures { λ _. ⌜ now (out .exit) ≡ squeeze (now (v .entry)) (length (now (out .entry))) ⌝ }
+    ensures { λ _. ⌜ after out ≡ squeeze (before v) (length (before out)) ⌝ }
 {
     let whole = out.len() / 8;
     for k in 0..whole {
@@ -101,7 +102,7 @@ fn squeeze_into(v: &[u64; 25], out: &mut [u8])
 // The end of the message: suffix, pad and digest, which is as long as `out`.
 pub fn finish(s: Sponge, rate: usize, out: &mut [u8])
     requires { ⌜ Rate rate × ((s .fill < rate) × (length (now out) ≤ rate)) ⌝ }
-    ensures { λ _. ⌜ now (out .exit) ≡ squeeze (padded rate s) (length (now (out .entry))) ⌝ }
+    ensures { λ _. ⌜ after out ≡ squeeze (padded rate s) (length (before out)) ⌝ }
 {
     let mut l = s.lanes;
     let fill = s.fill;
@@ -124,7 +125,7 @@ pub fn start() -> Sponge
 // The digest of m, as long as `out`.
 fn hash(rate: usize, m: &[u8], out: &mut [u8])
     requires { ⌜ Rate rate × (length (now out) ≤ rate) ⌝ }
-    ensures { λ _. ⌜ now (out .exit) ≡ digest rate (length (now (out .entry))) (now (m .entry)) ⌝ }
+    ensures { λ _. ⌜ after out ≡ digest rate (length (before out)) (before m) ⌝ }
 {
     let s = start();
     let t = absorb(s, rate, m);
@@ -134,7 +135,7 @@ fn hash(rate: usize, m: &[u8], out: &mut [u8])
 // The digest, as long as `out`, of a message in three parts.
 pub fn hash_parts(rate: usize, a: &[u8], b: &[u8], c: &[u8], out: &mut [u8])
     requires { ⌜ Rate rate × (length (now out) ≤ rate) ⌝ }
-    ensures { λ _. ⌜ now (out .exit) ≡ digest rate (length (now (out .entry))) (now (a .entry) ++ (now (b .entry) ++ now (c .entry))) ⌝ }
+    ensures { λ _. ⌜ after out ≡ digest rate (length (before out)) (before a ++ (before b ++ before c)) ⌝ }
 {
     let s = start();
     let t = absorb(s, rate, a);
@@ -145,14 +146,14 @@ pub fn hash_parts(rate: usize, a: &[u8], b: &[u8], c: &[u8], out: &mut [u8])
 
 // SHA3-224 of m.
 pub fn sha3_224(m: &[u8], out: &mut [u8; 28])
-    ensures { λ _. ⌜ now (out .exit) ≡ sha3-224 (now (m .entry)) ⌝ }
+    ensures { λ _. ⌜ after out ≡ sha3-224 (before m) ⌝ }
 {
     hash(144, m, out);
 }
 
 // SHA3-256 of m.
 pub fn sha3_256(m: &[u8], out: &mut [u8; 32])
-    ensures { λ _. ⌜ now (out .exit) ≡ sha3-256 (now (m .entry)) ⌝ }
+    ensures { λ _. ⌜ after out ≡ sha3-256 (before m) ⌝ }
 {
     hash(136, m, out);
 }

@@ -5,6 +5,7 @@ ghost use mathlib.Core.Path.{_≡_};
 ghost use Prim.Native.Nat.{_+_, _≤_, _<_};
 ghost use lib.ListN.{length, take};
 ghost use Rattle.laws.specs.Faults.{first};
+ghost use Rattle.laws.specs.Lent.{before};
 ghost use Rattle.laws.specs.Masks.{setBefore};
 ghost use Rattle.laws.specs.Chunks.{piece};
 ghost use Rattle.sha3.specs.Sha3.{absorbBytes, empty};
@@ -31,7 +32,7 @@ pub fn ballot_faults(
     marks: &[bool; 1024],
 ) -> Found
     requires { ⌜ n ≤ mostBallots ⌝ }
-    ensures { λ r. ⌜ r ≡ ballotFaults drawn p (now (bytes .entry)) n ⌝ }
+    ensures { λ r. ⌜ r ≡ ballotFaults drawn p (before bytes) n ⌝ }
 {
     let mut j: usize = 0;
     while j < n {
@@ -55,7 +56,7 @@ fn entry_faults(
     marks: &[bool; 1024],
 ) -> Found
     requires { ⌜ Few p × (l ≤ 24) ⌝ }
-    ensures { λ r. ⌜ r ≡ entryFaults drawn p (now (bytes .entry)) l ⌝ }
+    ensures { λ r. ⌜ r ≡ entryFaults drawn p (before bytes) l ⌝ }
 {
     let n = p.ballots;
     let mut i: usize = 0;
@@ -79,7 +80,7 @@ fn list_faults(
     marks: &[bool; 1024],
 ) -> Found
     requires { ⌜ Few p ⌝ }
-    ensures { λ r. ⌜ r ≡ first (entryFaults drawn p (now (bytes .entry))) (places.lists p) ⌝ }
+    ensures { λ r. ⌜ r ≡ first (entryFaults drawn p (before bytes)) (places.lists p) ⌝ }
 {
     let all = layout::lists(p);
     let mut l: usize = 0;
@@ -102,7 +103,7 @@ pub fn part_one_faults(
     marks: &[bool; 1024],
 ) -> Found
     requires { ⌜ Few p ⌝ }
-    ensures { λ r. ⌜ r ≡ partOneFaults drawn p (now (bytes .entry)) ⌝ }
+    ensures { λ r. ⌜ r ≡ partOneFaults drawn p (before bytes) ⌝ }
 {
     let f = ballot_faults(bytes, p, drawn, p.ballots, text, marks);
     let Found::Nothing = f else {
@@ -117,7 +118,7 @@ pub fn part_one_faults(
 // where nothing is drawn or the characters are not all there.
 pub fn dice_text(bytes: &[u8], at: usize, drawn: bool, prefix: sha3::Sponge) -> [u8; 86]
     requires { ⌜ (prefix .fill < 144) × (at < 1073741824) ⌝ }
-    ensures { λ r. ⌜ (drawn ≡ true → at + 31 ≤ length (now (bytes .entry)) → prefix ≡ absorbBytes 144 empty (take at (now (bytes .entry))) → r ≡ challenge (piece (now (bytes .entry)) (at + 1) 30) (take at (now (bytes .entry)))) ⌝ }
+    ensures { λ r. ⌜ (drawn ≡ true → at + 31 ≤ length (before bytes) → prefix ≡ absorbBytes 144 empty (take at (before bytes)) → r ≡ challenge (piece (before bytes) (at + 1) 30) (take at (before bytes))) ⌝ }
 {
     if !drawn {
         return [0u8; 86];
@@ -139,7 +140,7 @@ fn first_dice_fault(
     marks: &[bool; 1024],
 ) -> Found
     requires { ⌜ PartOnePassed drawn p (now bytes) prefix ⌝ }
-    ensures { λ r. ⌜ r ≡ found drawn p (now (bytes .entry)) Due.FirstDice ⌝ }
+    ensures { λ r. ⌜ r ≡ found drawn p (before bytes) Due.FirstDice ⌝ }
 {
     let at = layout::at_first_dice(p);
     let text = dice_text(bytes, at, drawn, prefix);
@@ -156,7 +157,7 @@ fn link_faults(
     text: &[u8; 86],
 ) -> Found
     requires { ⌜ FirstDicePassed drawn p (now bytes) × (rank ≡ setBefore (maskOf p (now bytes)) l) × (rank ≤ 24) ⌝ }
-    ensures { λ r. ⌜ r ≡ linkFaults drawn p (now (bytes .entry)) l ⌝ }
+    ensures { λ r. ⌜ r ≡ linkFaults drawn p (before bytes) l ⌝ }
 {
     let mut marks = [false; 1024];
     let n = p.ballots;
@@ -186,7 +187,7 @@ fn links_if_compared(
     text: &[u8; 86],
 ) -> Found
     requires { ⌜ FirstDicePassed drawn p (now bytes) × (mask ≡ maskOf p (now bytes)) × (l < places.lists p) × (rank ≡ setBefore (maskOf p (now bytes)) l) × (rank ≤ 24) ⌝ }
-    ensures { λ r. ⌜ r ≡ ifCompared p (now (bytes .entry)) l (linkFaults drawn p (now (bytes .entry)) l) ⌝ }
+    ensures { λ r. ⌜ r ≡ ifCompared p (before bytes) l (linkFaults drawn p (before bytes) l) ⌝ }
 {
     if (mask >> (l as u32)) % 2 == 0 {
         return Found::Nothing;
@@ -197,7 +198,7 @@ fn links_if_compared(
 // The links of all compared lists.
 fn compared_faults(bytes: &[u8], p: Parameters, drawn: bool, mask: u32, text: &[u8; 86]) -> Found
     requires { ⌜ FirstDicePassed drawn p (now bytes) × (mask ≡ maskOf p (now bytes)) ⌝ }
-    ensures { λ r. ⌜ r ≡ first (λ l. ifCompared p (now (bytes .entry)) l (linkFaults drawn p (now (bytes .entry)) l)) (places.lists p) ⌝ }
+    ensures { λ r. ⌜ r ≡ first (λ l. ifCompared p (before bytes) l (linkFaults drawn p (before bytes) l)) (places.lists p) ⌝ }
 {
     let all = layout::lists(p);
     let mut rank: usize = 0;
@@ -223,7 +224,7 @@ pub fn part_two_faults(
     marks: &[bool; 1024],
 ) -> Found
     requires { ⌜ PartOnePassed drawn p (now bytes) prefix ⌝ }
-    ensures { λ r. ⌜ r ≡ partTwoFaults drawn p (now (bytes .entry)) ⌝ }
+    ensures { λ r. ⌜ r ≡ partTwoFaults drawn p (before bytes) ⌝ }
 {
     let f = first_dice_fault(bytes, p, drawn, prefix, marks);
     let Found::Nothing = f else {

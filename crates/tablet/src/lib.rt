@@ -1,6 +1,7 @@
 // The tablet: a vote in shares and halves, committed in a ballot command, and the receipt that is printed of it.
 ghost use mathlib.Core.Path.{_≡_};
 ghost use lib.ListN.{length};
+ghost use Rattle.laws.specs.Lent.{before, after};
 ghost use Rattle.protocol.specs.Tablet as tablets;
 ghost use Rattle.protocol.specs.Tablet.{tabletCommand, tabletRefusal};
 ghost use Rattle.protocol.specs.Inputs.{writtenOf, afterwards};
@@ -56,7 +57,7 @@ fn put_command(
     keys: &[u8],
 )
     requires { ⌜ CastReady modulus vote x y u1 u2 u3 (length (now keys)) (length (now out)) ⌝ }
-    ensures { λ _. ⌜ now (out .exit) ≡ tabletCommand modulus id vote x y u1 u2 u3 (now (keys .entry)) ⌝ }
+    ensures { λ _. ⌜ after out ≡ tabletCommand modulus id vote x y u1 u2 u3 (before keys) ⌝ }
 {
     let rest = modular::minus(modulus, vote, x);
     let z = modular::minus(modulus, rest, y);
@@ -73,7 +74,7 @@ fn put_command(
 // The receipt of a ballot command: its id and its hash.
 fn put_receipt(out: &mut [u8], id: u32, command: &[u8])
     requires { ⌜ length (now out) ≡ 32 ⌝ }
-    ensures { λ _. ⌜ now (out .exit) ≡ tablets.receipt id (now (command .entry)) ⌝ }
+    ensures { λ _. ⌜ after out ≡ tablets.receipt id (before command) ⌝ }
 {
     let mut hash = [0u8; 28];
     sha3::sha3_224(command, &mut hash);
@@ -95,9 +96,9 @@ pub fn cast(
     command: &mut [u8],
     receipt: &mut [u8],
 ) -> Written
-    ensures answer { λ r. ⌜ r ≡ writtenOf (tabletRefusal modulus vote x y u1 u2 u3 (length (now (keys .entry))) (length (now (command .entry))) (length (now (receipt .entry)))) ⌝ }
-    ensures command { λ _. ⌜ now (command .exit) ≡ afterwards (tabletRefusal modulus vote x y u1 u2 u3 (length (now (keys .entry))) (length (now (command .entry))) (length (now (receipt .entry)))) (now (command .entry)) (tabletCommand modulus id vote x y u1 u2 u3 (now (keys .entry))) ⌝ }
-    ensures receipt { λ _. ⌜ now (receipt .exit) ≡ afterwards (tabletRefusal modulus vote x y u1 u2 u3 (length (now (keys .entry))) (length (now (command .entry))) (length (now (receipt .entry)))) (now (receipt .entry)) (tablets.receipt id (tabletCommand modulus id vote x y u1 u2 u3 (now (keys .entry)))) ⌝ }
+    ensures answer { λ r. ⌜ r ≡ writtenOf (tabletRefusal modulus vote x y u1 u2 u3 (length (before keys)) (length (before command)) (length (before receipt))) ⌝ }
+    ensures command { λ _. ⌜ after command ≡ afterwards (tabletRefusal modulus vote x y u1 u2 u3 (length (before keys)) (length (before command)) (length (before receipt))) (before command) (tabletCommand modulus id vote x y u1 u2 u3 (before keys)) ⌝ }
+    ensures receipt { λ _. ⌜ after receipt ≡ afterwards (tabletRefusal modulus vote x y u1 u2 u3 (length (before keys)) (length (before command)) (length (before receipt))) (before receipt) (tablets.receipt id (tabletCommand modulus id vote x y u1 u2 u3 (before keys))) ⌝ }
 {
     let k = refuse(
         modulus,

@@ -2,6 +2,7 @@
 ghost use mathlib.Core.Path.{_≡_};
 ghost use Prim.Native.Nat.{_+_, _-_, _≤_, _<_};
 ghost use lib.ListN.{length};
+ghost use Rattle.laws.specs.Lent.{before, after};
 ghost use Rattle.laws.specs.Tests.{equal, differ, _or_};
 ghost use Rattle.laws.specs.Writing.{Went};
 ghost use Rattle.protocol.specs.Terms.{item};
@@ -12,7 +13,7 @@ use protocol::Tally;
 
 // What the tally refuses, by number.
 fn refuse(votes: &[u32], values_len: usize, counts_len: usize) -> u32
-    ensures { λ r. ⌜ r ≡ tallyRefusal (now (votes .entry)) «values_len» «counts_len» ⌝ }
+    ensures { λ r. ⌜ r ≡ tallyRefusal (before votes) «values_len» «counts_len» ⌝ }
 {
     if 4294967295 < votes.len() {
         return 18;
@@ -36,7 +37,7 @@ fn refuse(votes: &[u32], values_len: usize, counts_len: usize) -> u32
 // Whether a vote is the first of its number.
 fn is_fresh(votes: &[u32], i: usize) -> bool
     requires { ⌜ i < length (now votes) ⌝ }
-    ensures { λ r. ⌜ r ≡ (equal i 0 or differ (item (now (votes .entry)) (i - 1)) (item (now (votes .entry)) i)) ⌝ }
+    ensures { λ r. ⌜ r ≡ (equal i 0 or differ (item (before votes) (i - 1)) (item (before votes) i)) ⌝ }
 {
     if i == 0 {
         return true;
@@ -47,9 +48,9 @@ fn is_fresh(votes: &[u32], i: usize) -> bool
 // Writes each distinct vote and how often it stands, and answers how many there are. Equal votes stand side by side.
 fn fill(votes: &[u32], values: &mut [u32], counts: &mut [u32]) -> usize
     requires { ⌜ Ready (now votes) (length (now values)) (length (now counts)) ⌝ }
-    ensures values { λ _. ⌜ now (values .exit) ≡ inFront (distinctVotes (now (votes .entry))) (now (values .entry)) ⌝ }
-    ensures counts { λ _. ⌜ now (counts .exit) ≡ inFront (voteCounts (now (votes .entry))) (now (counts .entry)) ⌝ }
-    ensures answer { λ r. ⌜ r ≡ length (distinctVotes (now (votes .entry))) ⌝ }
+    ensures values { λ _. ⌜ after values ≡ inFront (distinctVotes (before votes)) (before values) ⌝ }
+    ensures counts { λ _. ⌜ after counts ≡ inFront (voteCounts (before votes)) (before counts) ⌝ }
+    ensures answer { λ r. ⌜ r ≡ length (distinctVotes (before votes)) ⌝ }
 {
     let mut pairs: usize = 0;
     let mut i: usize = 0;
@@ -71,9 +72,9 @@ fn fill(votes: &[u32], values: &mut [u32], counts: &mut [u32]) -> usize
 // Entry: the tally of votes that do not fall, into two lent slices of the votes' length. What lies behind the last pair is unchanged.
 // With 2^32 votes or more a count might not be a number of 4 bytes.
 pub fn tally(votes: &[u32], values: &mut [u32], counts: &mut [u32]) -> Tally
-    ensures answer { λ r. ⌜ r ≡ tallyOf (now (votes .entry)) (tallyRefusal (now (votes .entry)) (length (now (values .entry))) (length (now (counts .entry)))) ⌝ }
-    ensures values { λ _. ⌜ now (values .exit) ≡ afterwards (tallyRefusal (now (votes .entry)) (length (now (values .entry))) (length (now (counts .entry)))) (now (values .entry)) (inFront (distinctVotes (now (votes .entry))) (now (values .entry))) ⌝ }
-    ensures counts { λ _. ⌜ now (counts .exit) ≡ afterwards (tallyRefusal (now (votes .entry)) (length (now (values .entry))) (length (now (counts .entry)))) (now (counts .entry)) (inFront (voteCounts (now (votes .entry))) (now (counts .entry))) ⌝ }
+    ensures answer { λ r. ⌜ r ≡ tallyOf (before votes) (tallyRefusal (before votes) (length (before values)) (length (before counts))) ⌝ }
+    ensures values { λ _. ⌜ after values ≡ afterwards (tallyRefusal (before votes) (length (before values)) (length (before counts))) (before values) (inFront (distinctVotes (before votes)) (before values)) ⌝ }
+    ensures counts { λ _. ⌜ after counts ≡ afterwards (tallyRefusal (before votes) (length (before values)) (length (before counts))) (before counts) (inFront (voteCounts (before votes)) (before counts)) ⌝ }
 {
     let k = refuse(votes, values.len(), counts.len());
     if k != 0 {
@@ -86,7 +87,7 @@ pub fn tally(votes: &[u32], values: &mut [u32], counts: &mut [u32]) -> Tally
 // Writes the line of a vote, one space, and how often it was announced from a place on, and answers the next place: at most 22 bytes.
 pub fn put_line(out: &mut [u8], at: usize, vote: u32, count: u32) -> usize
     requires { ⌜ at + 22 ≤ length (now out) ⌝ }
-    ensures { λ r. ⌜ Went (now (out .entry)) at (tallyLine vote count) (now (out .exit)) r ⌝ }
+    ensures { λ r. ⌜ Went (before out) at (tallyLine vote count) (after out) r ⌝ }
 {
     let space = challenge::put_decimal(out, at, vote);
     let second = wire::put1(out, space, 32);

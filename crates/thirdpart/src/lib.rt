@@ -3,6 +3,7 @@
 ghost use mathlib.Core.Path.{_≡_};
 ghost use Prim.Native.Nat.{_+_, _*_, _≤_};
 ghost use lib.ListN.{length};
+ghost use Rattle.laws.specs.Lent.{before, after};
 ghost use Rattle.laws.specs.Writing.{Went};
 ghost use Rattle.protocol.specs.Terms.{mostBallots};
 ghost use Rattle.protocol.specs.Layout as places;
@@ -15,7 +16,7 @@ use protocol::Parameters;
 // Commands 09.
 fn put_votes(out: &mut [u8], at: usize, votes: &[u32]) -> usize
     requires { ⌜ (length (now votes) ≤ mostBallots) × (at + length (now votes) * 7 ≤ length (now out)) ⌝ }
-    ensures { λ r. ⌜ Went (now (out .entry)) at (votesIn (now (votes .entry)) (length (now (votes .entry)))) (now (out .exit)) r ⌝ }
+    ensures { λ r. ⌜ Went (before out) at (votesIn (before votes) (length (before votes))) (after out) r ⌝ }
 {
     let mut next = at;
     let mut i: usize = 0;
@@ -41,7 +42,7 @@ fn write_rows(
     keys: &[u8],
 )
     requires { ⌜ ThreeReady p mask (now sides) (now positions) (now rows) (now mixed) (now numbers) (now keys) × ((length (now dice) ≡ 30) × ((length (now votes) ≡ p .ballots) × (length (now out) ≡ places.partThreeLength p))) ⌝ }
-    ensures { λ _. ⌜ now (out .exit) ≡ partIn p (now (dice .entry)) mask (now (sides .entry)) (now (votes .entry)) (now (positions .entry)) (now (rows .entry)) (now (mixed .entry)) (now (numbers .entry)) (now (keys .entry)) ⌝ }
+    ensures { λ _. ⌜ after out ≡ partIn p (before dice) mask (before sides) (before votes) (before positions) (before rows) (before mixed) (before numbers) (before keys) ⌝ }
 {
     let a = writers::put_second_dice(out, 0, dice);
     let b = halves::put_halves(
@@ -64,7 +65,7 @@ fn write_rows(
 // The votes, to be sorted.
 fn copy_votes(votes: &[u32], out: &mut [u32])
     requires { ⌜ length (now out) ≡ length (now votes) ⌝ }
-    ensures { λ _. ⌜ now (out .exit) ≡ now (votes .entry) ⌝ }
+    ensures { λ _. ⌜ after out ≡ before votes ⌝ }
 {
     let mut i: usize = 0;
     while i < votes.len() {
@@ -91,7 +92,7 @@ fn write_in(
     out: &mut [u8],
 )
     requires { ⌜ Writable (given (p .modulus) (p .ballots) (p .compared) (now ids) (now votes) (now numbers) (now permutations) (now keys)) (now dice) mask (now sides) (length (now out)) × Room p (length (now sorted)) (length (now positions)) (length (now rows)) (length (now mixed)) ⌝ }
-    ensures { λ _. ⌜ now (out .exit) ≡ thirdPart (given (p .modulus) (p .ballots) (p .compared) (now (ids .entry)) (now (votes .entry)) (now (numbers .entry)) (now (permutations .entry)) (now (keys .entry))) (now (dice .entry)) mask (now (sides .entry)) ⌝ }
+    ensures { λ _. ⌜ after out ≡ thirdPart (given (p .modulus) (p .ballots) (p .compared) (before ids) (before votes) (before numbers) (before permutations) (before keys)) (before dice) mask (before sides) ⌝ }
 {
     let n = p.ballots;
     let lists = 2 * p.compared;
@@ -131,7 +132,7 @@ pub fn write(
     out: &mut [u8],
 )
     requires { ⌜ Writable (given modulus ballots compared (now ids) (now votes) (now numbers) (now permutations) (now keys)) (now dice) mask (now sides) (length (now out)) ⌝ }
-    ensures { λ _. ⌜ now (out .exit) ≡ thirdPart (given modulus ballots compared (now (ids .entry)) (now (votes .entry)) (now (numbers .entry)) (now (permutations .entry)) (now (keys .entry))) (now (dice .entry)) mask (now (sides .entry)) ⌝ }
+    ensures { λ _. ⌜ after out ≡ thirdPart (given modulus ballots compared (before ids) (before votes) (before numbers) (before permutations) (before keys)) (before dice) mask (before sides) ⌝ }
 {
     let p = Parameters {
         modulus,

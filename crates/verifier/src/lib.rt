@@ -5,6 +5,7 @@ ghost use Prim.Native.Nat.{_-_, _≤_, _<_};
 ghost use lib.ListN.{length};
 ghost use Rattle.laws.specs.Faults.{_then_};
 ghost use Rattle.laws.specs.Chunks.{piece};
+ghost use Rattle.laws.specs.Lent.{before};
 ghost use Rattle.sha3.specs.Sha3.{absorbBytes};
 ghost use Rattle.protocol.specs.Record.{parametersOf};
 ghost use Rattle.protocol.specs.Judging.{found, ballotFaults, partOneFaults, partTwoFaults, partThreeFaults, firstFault, judged};
@@ -19,7 +20,7 @@ use protocol::Verdict;
 // The parameters that the first command says.
 pub fn parameters(bytes: &[u8]) -> Parameters
     requires { ⌜ 8 ≤ length (now bytes) ⌝ }
-    ensures { λ r. ⌜ r ≡ parametersOf (now (bytes .entry)) ⌝ }
+    ensures { λ r. ⌜ r ≡ parametersOf (before bytes) ⌝ }
 {
     Parameters {
         modulus: wire::read4(bytes, 1),
@@ -30,7 +31,7 @@ pub fn parameters(bytes: &[u8]) -> Parameters
 
 // The fault of the first command. No parameters are known yet, and it needs none.
 fn first_command_fault(bytes: &[u8], drawn: bool, text: &[u8; 86], marks: &[bool; 1024]) -> Found
-    ensures { λ r. ⌜ r ≡ found drawn (parametersOf (now (bytes .entry))) (now (bytes .entry)) Due.First ⌝ }
+    ensures { λ r. ⌜ r ≡ found drawn (parametersOf (before bytes)) (before bytes) Due.First ⌝ }
 {
     let none = Parameters {
         modulus: 0,
@@ -45,7 +46,7 @@ fn first_command_fault(bytes: &[u8], drawn: bool, text: &[u8; 86], marks: &[bool
 // The sponge that has taken in the record from one place up to another; as it was where nothing is drawn.
 fn take_in(bytes: &[u8], from: usize, to: usize, drawn: bool, s: sha3::Sponge) -> sha3::Sponge
     requires { ⌜ (from ≤ to) × ((to ≤ length (now bytes)) × (s .fill < 144)) ⌝ }
-    ensures { λ r. ⌜ (r .fill < 144) × (drawn ≡ true → r ≡ absorbBytes 144 s (piece (now (bytes .entry)) from (to - from))) ⌝ }
+    ensures { λ r. ⌜ (r .fill < 144) × (drawn ≡ true → r ≡ absorbBytes 144 s (piece (before bytes) from (to - from))) ⌝ }
 {
     if drawn {
         return sha3::absorb(s, 144, &bytes[from..to]);
@@ -62,7 +63,7 @@ fn rest_faults(
     marks: &[bool; 1024],
 ) -> Found
     requires { ⌜ Started p (now bytes) ⌝ }
-    ensures { λ r. ⌜ r ≡ partOneFaults drawn p (now (bytes .entry)) then (partTwoFaults drawn p (now (bytes .entry)) then partThreeFaults drawn p (now (bytes .entry))) ⌝ }
+    ensures { λ r. ⌜ r ≡ partOneFaults drawn p (before bytes) then (partTwoFaults drawn p (before bytes) then partThreeFaults drawn p (before bytes)) ⌝ }
 {
     let one = stages::part_one_faults(bytes, p, drawn, text, marks);
     let Found::Nothing = one else {
@@ -80,7 +81,7 @@ fn rest_faults(
 
 // The first fault of a record; `text` and `marks` stand in where a stage has none.
 fn first_fault_with(bytes: &[u8], drawn: bool, text: &[u8; 86], marks: &[bool; 1024]) -> Found
-    ensures { λ r. ⌜ r ≡ firstFault drawn (now (bytes .entry)) ⌝ }
+    ensures { λ r. ⌜ r ≡ firstFault drawn (before bytes) ⌝ }
 {
     let f = first_command_fault(bytes, drawn, text, marks);
     let Found::Nothing = f else {
@@ -91,7 +92,7 @@ fn first_fault_with(bytes: &[u8], drawn: bool, text: &[u8; 86], marks: &[bool; 1
 }
 
 fn head_fault_with(bytes: &[u8], text: &[u8; 86], marks: &[bool; 1024]) -> Found
-    ensures { λ r. ⌜ r ≡ found false (parametersOf (now (bytes .entry))) (now (bytes .entry)) Due.First then ballotFaults false (parametersOf (now (bytes .entry))) (now (bytes .entry)) (parametersOf (now (bytes .entry)) .ballots) ⌝ }
+    ensures { λ r. ⌜ r ≡ found false (parametersOf (before bytes)) (before bytes) Due.First then ballotFaults false (parametersOf (before bytes)) (before bytes) (parametersOf (before bytes) .ballots) ⌝ }
 {
     let f = first_command_fault(bytes, false, text, marks);
     let Found::Nothing = f else {
@@ -103,7 +104,7 @@ fn head_fault_with(bytes: &[u8], text: &[u8; 86], marks: &[bool; 1024]) -> Found
 
 // The first fault of the parameters and of all ballots: as far as the receipt check reads.
 pub fn head_fault(bytes: &[u8]) -> Found
-    ensures { λ r. ⌜ r ≡ found false (parametersOf (now (bytes .entry))) (now (bytes .entry)) Due.First then ballotFaults false (parametersOf (now (bytes .entry))) (now (bytes .entry)) (parametersOf (now (bytes .entry)) .ballots) ⌝ }
+    ensures { λ r. ⌜ r ≡ found false (parametersOf (before bytes)) (before bytes) Due.First then ballotFaults false (parametersOf (before bytes)) (before bytes) (parametersOf (before bytes) .ballots) ⌝ }
 {
     let text = [0u8; 86];
     let marks = [false; 1024];
@@ -112,7 +113,7 @@ pub fn head_fault(bytes: &[u8]) -> Found
 
 // The first fault of a record, with the place where its command starts.
 pub fn first_fault(bytes: &[u8], drawn: bool) -> Found
-    ensures { λ r. ⌜ r ≡ firstFault drawn (now (bytes .entry)) ⌝ }
+    ensures { λ r. ⌜ r ≡ firstFault drawn (before bytes) ⌝ }
 {
     let text = [0u8; 86];
     let marks = [false; 1024];
@@ -120,7 +121,7 @@ pub fn first_fault(bytes: &[u8], drawn: bool) -> Found
 }
 
 fn judge(bytes: &[u8], drawn: bool) -> Verdict
-    ensures { λ r. ⌜ r ≡ judged drawn (now (bytes .entry)) ⌝ }
+    ensures { λ r. ⌜ r ≡ judged drawn (before bytes) ⌝ }
 {
     match first_fault(bytes, drawn) {
         Found::Nothing => Verdict::Accepted,
@@ -130,14 +131,14 @@ fn judge(bytes: &[u8], drawn: bool) -> Verdict
 
 // Entry: plain judging takes mask and sides as posted.
 pub fn judge_plainly(bytes: &[u8]) -> Verdict
-    ensures { λ r. ⌜ r ≡ judged false (now (bytes .entry)) ⌝ }
+    ensures { λ r. ⌜ r ≡ judged false (before bytes) ⌝ }
 {
     judge(bytes, false)
 }
 
 // Entry: drawn judging demands that mask and sides be the drawn ones.
 pub fn judge_as_drawn(bytes: &[u8]) -> Verdict
-    ensures { λ r. ⌜ r ≡ judged true (now (bytes .entry)) ⌝ }
+    ensures { λ r. ⌜ r ≡ judged true (before bytes) ⌝ }
 {
     judge(bytes, true)
 }

@@ -4,13 +4,14 @@ ghost use mathlib.Core.Path.{_≡_};
 ghost use Prim.Native.Nat.{_+_, _≤_, _<_};
 ghost use lib.ListN.{length};
 ghost use Rattle.laws.specs.Bytes.{number, bytes};
+ghost use Rattle.laws.specs.Lent.{before, after};
 ghost use Rattle.laws.specs.Tests.{same};
 ghost use Rattle.laws.specs.Writing.{Went};
 
 // The byte at a place.
 pub fn read1(s: &[u8], at: usize) -> u32
     requires { ⌜ at + 1 ≤ length (now s) ⌝ }
-    ensures { λ r. ⌜ (r ≡ number (now (s .entry)) at 1) × (r < 256) ⌝ }
+    ensures { λ r. ⌜ (r ≡ number (before s) at 1) × (r < 256) ⌝ }
 {
     s[at] as u32
 }
@@ -18,7 +19,7 @@ pub fn read1(s: &[u8], at: usize) -> u32
 // The number of two bytes from a place on.
 pub fn read2(s: &[u8], at: usize) -> u32
     requires { ⌜ at + 2 ≤ length (now s) ⌝ }
-    ensures { λ r. ⌜ (r ≡ number (now (s .entry)) at 2) × (r < 65536) ⌝ }
+    ensures { λ r. ⌜ (r ≡ number (before s) at 2) × (r < 65536) ⌝ }
 {
     read1(s, at) * 256 + read1(s, at + 1)
 }
@@ -26,7 +27,7 @@ pub fn read2(s: &[u8], at: usize) -> u32
 // The number of four bytes from a place on.
 pub fn read4(s: &[u8], at: usize) -> u32
     requires { ⌜ at + 4 ≤ length (now s) ⌝ }
-    ensures { λ r. ⌜ (r ≡ number (now (s .entry)) at 4) × (r < 4294967296) ⌝ }
+    ensures { λ r. ⌜ (r ≡ number (before s) at 4) × (r < 4294967296) ⌝ }
 {
     read2(s, at) * 65536 + read2(s, at + 2)
 }
@@ -34,7 +35,7 @@ pub fn read4(s: &[u8], at: usize) -> u32
 // The number of eight bytes from a place on.
 pub fn read8(s: &[u8], at: usize) -> u64
     requires { ⌜ at + 8 ≤ length (now s) ⌝ }
-    ensures { λ r. ⌜ (r ≡ number (now (s .entry)) at 8) × (r < 18446744073709551616) ⌝ }
+    ensures { λ r. ⌜ (r ≡ number (before s) at 8) × (r < 18446744073709551616) ⌝ }
 {
     (read4(s, at) as u64) * 4294967296 + (read4(s, at + 4) as u64)
 }
@@ -42,7 +43,7 @@ pub fn read8(s: &[u8], at: usize) -> u64
 // Writes the lowest byte of x at a place, and answers the next place.
 pub fn put1(out: &mut [u8], at: usize, x: u32) -> usize
     requires { ⌜ at + 1 ≤ length (now out) ⌝ }
-    ensures { λ r. ⌜ Went (now (out .entry)) at (bytes 1 x) (now (out .exit)) r ⌝ }
+    ensures { λ r. ⌜ Went (before out) at (bytes 1 x) (after out) r ⌝ }
 {
     out[at] = (x % 256) as u8;
     at + 1
@@ -51,7 +52,7 @@ pub fn put1(out: &mut [u8], at: usize, x: u32) -> usize
 // Writes the lowest two bytes of x from a place on, and answers the next place.
 pub fn put2(out: &mut [u8], at: usize, x: u32) -> usize
     requires { ⌜ at + 2 ≤ length (now out) ⌝ }
-    ensures { λ r. ⌜ Went (now (out .entry)) at (bytes 2 x) (now (out .exit)) r ⌝ }
+    ensures { λ r. ⌜ Went (before out) at (bytes 2 x) (after out) r ⌝ }
 {
     let next = put1(out, at, x / 256);
     put1(out, next, x)
@@ -60,7 +61,7 @@ pub fn put2(out: &mut [u8], at: usize, x: u32) -> usize
 // Writes the four bytes of x from a place on, and answers the next place.
 pub fn put4(out: &mut [u8], at: usize, x: u32) -> usize
     requires { ⌜ at + 4 ≤ length (now out) ⌝ }
-    ensures { λ r. ⌜ Went (now (out .entry)) at (bytes 4 x) (now (out .exit)) r ⌝ }
+    ensures { λ r. ⌜ Went (before out) at (bytes 4 x) (after out) r ⌝ }
 {
     let next = put2(out, at, x / 65536);
     put2(out, next, x)
@@ -69,7 +70,7 @@ pub fn put4(out: &mut [u8], at: usize, x: u32) -> usize
 // Copies src into out from a place on, and answers the next place.
 pub fn copy(out: &mut [u8], at: usize, src: &[u8]) -> usize
     requires { ⌜ at + length (now src) ≤ length (now out) ⌝ }
-    ensures { λ r. ⌜ Went (now (out .entry)) at (now (src .entry)) (now (out .exit)) r ⌝ }
+    ensures { λ r. ⌜ Went (before out) at (before src) (after out) r ⌝ }
 {
     let mut i: usize = 0;
     while i < src.len() {
@@ -82,7 +83,7 @@ pub fn copy(out: &mut [u8], at: usize, src: &[u8]) -> usize
 // Whether a and b are the same bytes. It does not stop at the first difference: a loop that goes through to the end
 // lets the compiler compare many bytes at once.
 pub fn same_bytes(a: &[u8], b: &[u8]) -> bool
-    ensures { λ r. ⌜ r ≡ same (now (a .entry)) (now (b .entry)) ⌝ }
+    ensures { λ r. ⌜ r ≡ same (before a) (before b) ⌝ }
 {
     if a.len() != b.len() {
         return false;

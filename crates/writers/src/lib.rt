@@ -5,6 +5,7 @@ ghost use Prim.Native.Nat.{ℕ, _+_, _*_, _≤_, _<_};
 ghost use lib.ListN.{length};
 ghost use Rattle.laws.specs.Bytes.{bytes};
 ghost use Rattle.laws.specs.Chunks.{chunks};
+ghost use Rattle.laws.specs.Lent.{before, after};
 ghost use Rattle.laws.specs.Writing.{Went};
 ghost use Rattle.protocol.specs.Terms.{Place, inBallot, inEntry, commitment};
 ghost use Rattle.protocol.specs.Tablet.{ballotCommand};
@@ -35,7 +36,7 @@ fn slot(s: Split, q: usize) -> u32
 // The six commitments of a split with its six keys.
 fn put_six_commitments(out: &mut [u8], at: usize, s: Split, keys: &[u8]) -> usize
     requires { ⌜ SplitReady s × ((length (now keys) ≡ 192) × (at + 192 ≤ length (now out))) ⌝ }
-    ensures { λ r. ⌜ ((place : ℕ → Place) → Went (now (out .entry)) at (chunks (λ q. commitment (place q) (slotOpening s (now (keys .entry)) q)) 6) (now (out .exit)) r) ⌝ }
+    ensures { λ r. ⌜ ((place : ℕ → Place) → Went (before out) at (chunks (λ q. commitment (place q) (slotOpening s (before keys) q)) 6) (after out) r) ⌝ }
 {
     let mut next = at;
     let mut q: usize = 0;
@@ -59,7 +60,7 @@ fn put_openings(
     keys: &[u8],
 ) -> usize
     requires { ⌜ SplitReady s × ((length (now keys) ≡ 192) × ((at + count * 36 ≤ length (now out)) × ((k : ℕ) → k < count → step * k + from < 6))) ⌝ }
-    ensures { λ r. ⌜ Went (now (out .entry)) at (chunks (λ k. slotOpening s (now (keys .entry)) (step * k + from)) count) (now (out .exit)) r ⌝ }
+    ensures { λ r. ⌜ Went (before out) at (chunks (λ k. slotOpening s (before keys) (step * k + from)) count) (after out) r ⌝ }
 {
     let mut next = at;
     let mut k: usize = 0;
@@ -76,7 +77,7 @@ fn put_openings(
 // All six openings of a split.
 fn put_six_openings(out: &mut [u8], at: usize, s: Split, keys: &[u8]) -> usize
     requires { ⌜ SplitReady s × ((length (now keys) ≡ 192) × (at + 216 ≤ length (now out))) ⌝ }
-    ensures { λ r. ⌜ Went (now (out .entry)) at (chunks (slotOpening s (now (keys .entry))) 6) (now (out .exit)) r ⌝ }
+    ensures { λ r. ⌜ Went (before out) at (chunks (slotOpening s (before keys)) 6) (after out) r ⌝ }
 {
     put_openings(out, at, 0, 1, 6, s, keys)
 }
@@ -84,7 +85,7 @@ fn put_six_openings(out: &mut [u8], at: usize, s: Split, keys: &[u8]) -> usize
 // The three openings of one side of a split.
 fn put_three_openings(out: &mut [u8], at: usize, side: usize, s: Split, keys: &[u8]) -> usize
     requires { ⌜ SplitReady s × ((side ≤ 1) × ((length (now keys) ≡ 192) × (at + 108 ≤ length (now out)))) ⌝ }
-    ensures { λ r. ⌜ Went (now (out .entry)) at (chunks (λ k. slotOpening s (now (keys .entry)) (2 * k + side)) 3) (now (out .exit)) r ⌝ }
+    ensures { λ r. ⌜ Went (before out) at (chunks (λ k. slotOpening s (before keys) (2 * k + side)) 3) (after out) r ⌝ }
 {
     put_openings(out, at, side, 2, 3, s, keys)
 }
@@ -92,7 +93,7 @@ fn put_three_openings(out: &mut [u8], at: usize, side: usize, s: Split, keys: &[
 // The beginning of a command that names a list: its code, the list, and a position or a ballot.
 fn put_head(out: &mut [u8], at: usize, code: u32, l: u32, i: u32) -> usize
     requires { ⌜ (code < 256) × (at + 4 ≤ length (now out)) ⌝ }
-    ensures { λ r. ⌜ Went (now (out .entry)) at ((code ∷ bytes 1 l) ++ bytes 2 i) (now (out .exit)) r ⌝ }
+    ensures { λ r. ⌜ Went (before out) at ((code ∷ bytes 1 l) ++ bytes 2 i) (after out) r ⌝ }
 {
     let a = wire::put1(out, at, code);
     let b = wire::put1(out, a, l);
@@ -102,7 +103,7 @@ fn put_head(out: &mut [u8], at: usize, code: u32, l: u32, i: u32) -> usize
 // 01: the parameters.
 pub fn put_first(out: &mut [u8], at: usize, p: Parameters) -> usize
     requires { ⌜ (p .ballots < 65536) × ((p .compared < 256) × (at + 8 ≤ length (now out))) ⌝ }
-    ensures { λ r. ⌜ Went (now (out .entry)) at (firstCommand p) (now (out .exit)) r ⌝ }
+    ensures { λ r. ⌜ Went (before out) at (firstCommand p) (after out) r ⌝ }
 {
     let a = wire::put1(out, at, 1);
     let b = wire::put4(out, a, p.modulus);
@@ -113,7 +114,7 @@ pub fn put_first(out: &mut [u8], at: usize, p: Parameters) -> usize
 // 02: a ballot.
 pub fn put_ballot(out: &mut [u8], at: usize, id: u32, s: Split, keys: &[u8]) -> usize
     requires { ⌜ SplitReady s × ((length (now keys) ≡ 192) × (at + 197 ≤ length (now out))) ⌝ }
-    ensures { λ r. ⌜ Went (now (out .entry)) at (ballotCommand id (λ q. commitment (inBallot id q) (slotOpening s (now (keys .entry)) q))) (now (out .exit)) r ⌝ }
+    ensures { λ r. ⌜ Went (before out) at (ballotCommand id (λ q. commitment (inBallot id q) (slotOpening s (before keys) q))) (after out) r ⌝ }
 {
     let a = wire::put1(out, at, 2);
     let b = wire::put4(out, a, id);
@@ -123,7 +124,7 @@ pub fn put_ballot(out: &mut [u8], at: usize, id: u32, s: Split, keys: &[u8]) -> 
 // 03: a list entry.
 pub fn put_entry(out: &mut [u8], at: usize, l: u32, i: u32, s: Split, keys: &[u8]) -> usize
     requires { ⌜ SplitReady s × ((length (now keys) ≡ 192) × (at + 196 ≤ length (now out))) ⌝ }
-    ensures { λ r. ⌜ Went (now (out .entry)) at (entryCommand l i (λ q. commitment (inEntry l i q) (slotOpening s (now (keys .entry)) q))) (now (out .exit)) r ⌝ }
+    ensures { λ r. ⌜ Went (before out) at (entryCommand l i (λ q. commitment (inEntry l i q) (slotOpening s (before keys) q))) (after out) r ⌝ }
 {
     let a = put_head(out, at, 3, l, i);
     put_six_commitments(out, a, s, keys)
@@ -132,7 +133,7 @@ pub fn put_entry(out: &mut [u8], at: usize, l: u32, i: u32, s: Split, keys: &[u8
 // 04: the first dice and the mask.
 pub fn put_first_dice(out: &mut [u8], at: usize, dice: &[u8], mask: u32) -> usize
     requires { ⌜ (length (now dice) ≡ 30) × (at + 35 ≤ length (now out)) ⌝ }
-    ensures { λ r. ⌜ Went (now (out .entry)) at (firstDiceCommand (now (dice .entry)) mask) (now (out .exit)) r ⌝ }
+    ensures { λ r. ⌜ Went (before out) at (firstDiceCommand (before dice) mask) (after out) r ⌝ }
 {
     let a = wire::put1(out, at, 4);
     let b = wire::copy(out, a, dice);
@@ -142,7 +143,7 @@ pub fn put_first_dice(out: &mut [u8], at: usize, dice: &[u8], mask: u32) -> usiz
 // 05: a link.
 pub fn put_link(out: &mut [u8], at: usize, l: u32, j: u32, position: u32, t: u32) -> usize
     requires { ⌜ at + 10 ≤ length (now out) ⌝ }
-    ensures { λ r. ⌜ Went (now (out .entry)) at (linkCommand l j position t) (now (out .exit)) r ⌝ }
+    ensures { λ r. ⌜ Went (before out) at (linkCommand l j position t) (after out) r ⌝ }
 {
     let a = put_head(out, at, 5, l, j);
     let b = wire::put2(out, a, position);
@@ -152,7 +153,7 @@ pub fn put_link(out: &mut [u8], at: usize, l: u32, j: u32, position: u32, t: u32
 // 06: the second dice.
 pub fn put_second_dice(out: &mut [u8], at: usize, dice: &[u8]) -> usize
     requires { ⌜ (length (now dice) ≡ 30) × (at + 31 ≤ length (now out)) ⌝ }
-    ensures { λ r. ⌜ Went (now (out .entry)) at (secondDiceCommand (now (dice .entry))) (now (out .exit)) r ⌝ }
+    ensures { λ r. ⌜ Went (before out) at (secondDiceCommand (before dice)) (after out) r ⌝ }
 {
     let a = wire::put1(out, at, 6);
     wire::copy(out, a, dice)
@@ -161,7 +162,7 @@ pub fn put_second_dice(out: &mut [u8], at: usize, dice: &[u8]) -> usize
 // 07: a ballot's half.
 pub fn put_ballot_half(out: &mut [u8], at: usize, j: u32, side: u32, s: Split, keys: &[u8]) -> usize
     requires { ⌜ SplitReady s × ((side ≤ 1) × ((length (now keys) ≡ 192) × (at + 112 ≤ length (now out)))) ⌝ }
-    ensures { λ r. ⌜ Went (now (out .entry)) at (ballotHalfCommand j side (λ k. slotOpening s (now (keys .entry)) (2 * k + side))) (now (out .exit)) r ⌝ }
+    ensures { λ r. ⌜ Went (before out) at (ballotHalfCommand j side (λ k. slotOpening s (before keys) (2 * k + side))) (after out) r ⌝ }
 {
     let a = wire::put1(out, at, 7);
     let b = wire::put2(out, a, j);
@@ -180,7 +181,7 @@ pub fn put_list_half(
     keys: &[u8],
 ) -> usize
     requires { ⌜ SplitReady s × ((side ≤ 1) × ((length (now keys) ≡ 192) × (at + 112 ≤ length (now out)))) ⌝ }
-    ensures { λ r. ⌜ Went (now (out .entry)) at (listHalfCommand l position (λ k. slotOpening s (now (keys .entry)) (2 * k + side))) (now (out .exit)) r ⌝ }
+    ensures { λ r. ⌜ Went (before out) at (listHalfCommand l position (λ k. slotOpening s (before keys) (2 * k + side))) (after out) r ⌝ }
 {
     let a = put_head(out, at, 8, l, position);
     put_three_openings(out, a, side as usize, s, keys)
@@ -189,7 +190,7 @@ pub fn put_list_half(
 // 09: an announced vote.
 pub fn put_vote(out: &mut [u8], at: usize, i: u32, vote: u32) -> usize
     requires { ⌜ at + 7 ≤ length (now out) ⌝ }
-    ensures { λ r. ⌜ Went (now (out .entry)) at (voteCommand i vote) (now (out .exit)) r ⌝ }
+    ensures { λ r. ⌜ Went (before out) at (voteCommand i vote) (after out) r ⌝ }
 {
     let a = wire::put1(out, at, 9);
     let b = wire::put2(out, a, i);
@@ -199,7 +200,7 @@ pub fn put_vote(out: &mut [u8], at: usize, i: u32, vote: u32) -> usize
 // 0A: a full opening.
 pub fn put_full(out: &mut [u8], at: usize, l: u32, i: u32, s: Split, keys: &[u8]) -> usize
     requires { ⌜ SplitReady s × ((length (now keys) ≡ 192) × (at + 220 ≤ length (now out))) ⌝ }
-    ensures { λ r. ⌜ Went (now (out .entry)) at (fullCommand l i (slotOpening s (now (keys .entry)))) (now (out .exit)) r ⌝ }
+    ensures { λ r. ⌜ Went (before out) at (fullCommand l i (slotOpening s (before keys))) (after out) r ⌝ }
 {
     let a = put_head(out, at, 10, l, i);
     put_six_openings(out, a, s, keys)
@@ -208,7 +209,7 @@ pub fn put_full(out: &mut [u8], at: usize, l: u32, i: u32, s: Split, keys: &[u8]
 // 0B: the end.
 pub fn put_end(out: &mut [u8], at: usize) -> usize
     requires { ⌜ at + 1 ≤ length (now out) ⌝ }
-    ensures { λ r. ⌜ Went (now (out .entry)) at (11 ∷ []) (now (out .exit)) r ⌝ }
+    ensures { λ r. ⌜ Went (before out) at (11 ∷ []) (after out) r ⌝ }
 {
     wire::put1(out, at, 11)
 }
