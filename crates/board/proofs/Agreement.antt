@@ -6,11 +6,12 @@ use Prim.Native.Nat.{ℕ, _*_, _<_}
 use native.Mathlib.Omega.{arith}
 use Rattle.laws.specs.Bytes.{bytes}
 use Rattle.laws.specs.Chunks.{chunks, chunks-same}
-use Rattle.protocol.specs.Terms.{item, inBallot, inEntry, commitment}
+use Rattle.protocol.specs.declared.Place.the-variants.{InBallot, InEntry}
+use Rattle.protocol.specs.Terms.{item, commitment}
 use Rattle.protocol.specs.Tablet.{ballotCommand}
 use Rattle.protocol.specs.Layout.{lists}
 use Rattle.protocol.specs.Record.{firstCommand, entryCommand, partOne}
-use Rattle.protocol.specs.Inputs.{Slices, parametersFor, inputsOf}
+use Rattle.protocol.specs.Inputs.{Slices, inputsOf}
 use Rattle.protocol.specs.Servers.{ballotRow, mixed, postedBoard, firstPart}
 use Rattle.protocol.proofs.Unrefused.{Unrefused}
 use Rattle.mixing.specs.Lists.{shareAt, Rows}
@@ -30,13 +31,13 @@ entry-same l i c d h = ap (λ (x : List ℕ). ((3 ∷ bytes 1 l) ++ bytes 2 i) +
 
 module _ (s : Slices) {lengths fair shape binary : Bool} (u : Unrefused s lengths fair shape binary) where
   -- the rows as they are worked out, and what is asked of them
-  pub rows-are : {out : List ℕ} (n : ℕ) → n ≡ s .ballots → Rows (s .modulus) n (shareAt (s .modulus) (s .votes) (s .numbers)) out
-      → Rows (s .modulus) (s .ballots) (ballotRow (inputsOf s)) out
+  pub rows-are : {out : List ℕ} (n : ℕ) → n ≡ s .parameters .ballots → Rows (s .parameters .modulus) n (shareAt (s .parameters .modulus) (s .votes) (s .numbers)) out
+      → Rows (s .parameters .modulus) (s .parameters .ballots) (ballotRow (inputsOf s)) out
   rows-are n e h = ballot-rows s (rw e at h)
 
-  pub board-ready : {rows out : List ℕ} → Rows (s .modulus) (s .ballots) (ballotRow (inputsOf s)) rows
-      → Mixed (s .modulus) (s .ballots) (2 * s .compared) (mixed (inputsOf s)) out
-      → BoardReady (s .modulus) (s .ballots) (2 * s .compared) (s .ids) rows out (s .numbers) (s .keys)
+  pub board-ready : {rows out : List ℕ} → Rows (s .parameters .modulus) (s .parameters .ballots) (ballotRow (inputsOf s)) rows
+      → Mixed (s .parameters .modulus) (s .parameters .ballots) (2 * s .parameters .compared) (mixed (inputsOf s)) out
+      → BoardReady (s .parameters .modulus) (s .parameters .ballots) (2 * s .parameters .compared) (s .ids) rows out (s .numbers) (s .keys)
   board-ready r m = record {
     ids-long = u .ids-long;
     numbers-ready = numbers-ready s u;
@@ -46,17 +47,17 @@ module _ (s : Slices) {lengths fair shape binary : Bool} (u : Unrefused s length
   }
 
   -- what is written of them
-  pub part-is : {rows out written : List ℕ} → Rows (s .modulus) (s .ballots) (ballotRow (inputsOf s)) rows
-      → Mixed (s .modulus) (s .ballots) (2 * s .compared) (mixed (inputsOf s)) out
+  pub part-is : {rows out written : List ℕ} → Rows (s .parameters .modulus) (s .parameters .ballots) (ballotRow (inputsOf s)) rows
+      → Mixed (s .parameters .modulus) (s .parameters .ballots) (2 * s .parameters .compared) (mixed (inputsOf s)) out
       → written
-      ≡ firstCommand (parametersFor s)
-      ++ (ballotsIn (s .modulus) (s .ballots) (s .ids) rows (s .numbers) (s .keys) (s .ballots)
-      ++ chunks (λ l. entriesIn (s .modulus) (s .ballots) out (s .numbers) (s .keys) l (s .ballots)) (lists (parametersFor s)))
+      ≡ firstCommand (s .parameters)
+      ++ (ballotsIn (s .parameters .modulus) (s .parameters .ballots) (s .ids) rows (s .numbers) (s .keys) (s .parameters .ballots)
+      ++ chunks (λ l. entriesIn (s .parameters .modulus) (s .parameters .ballots) out (s .numbers) (s .keys) l (s .parameters .ballots)) (lists (s .parameters)))
       → written ≡ firstPart s
   unfolding firstPart partOne postedBoard inputsOf
   part-is r m e =
       e
-      ∙ ap₂ (λ (x y : List ℕ). firstCommand (parametersFor s) ++ (x ++ y))
-      (chunks-same _ _ (s .ballots) (λ j lj. ballot-same _ _ _ (λ q lq. ap (commitment (inBallot (item (s .ids) j) q)) (ballot-opening-is s u r j q lj lq))))
-      (chunks-same _ _ (2 * s .compared) (λ l ll.
-      chunks-same _ _ (s .ballots) (λ i li. entry-same l i _ _ (λ q lq. ap (commitment (inEntry l i q)) (entry-opening-is s u m l i q ll li lq)))))
+      ∙ ap₂ (λ (x y : List ℕ). firstCommand (s .parameters) ++ (x ++ y))
+      (chunks-same _ _ (s .parameters .ballots) (λ j lj. ballot-same _ _ _ (λ q lq. ap (commitment (InBallot (item (s .ids) j) q)) (ballot-opening-is s u r j q lj lq))))
+      (chunks-same _ _ (2 * s .parameters .compared) (λ l ll.
+      chunks-same _ _ (s .parameters .ballots) (λ i li. entry-same l i _ _ (λ q lq. ap (commitment (InEntry l i q)) (entry-opening-is s u m l i q ll li lq)))))

@@ -8,7 +8,8 @@ use lib.ListN.{length, take, drop, length-append}
 use Rattle.laws.specs.Chunks.{chunks, chunks-even}
 use Rattle.laws.specs.Writing.{Went, go-on, go-turn, go-same, whole, part-is}
 use Rattle.protocol.specs.declared.Parameters.{Parameters}
-use Rattle.protocol.specs.Terms.{item, inBallot, inEntry, commitment}
+use Rattle.protocol.specs.declared.Place.the-variants.{InBallot, InEntry}
+use Rattle.protocol.specs.Terms.{item, commitment}
 use Rattle.protocol.specs.Tablet.{ballotCommand}
 use Rattle.protocol.specs.Layout.{lists, atFirstDice, partOneLength}
 use Rattle.protocol.specs.Record.{firstCommand, entryCommand}
@@ -21,10 +22,10 @@ use Rattle.board.specs.Posted.{ballotsIn, entriesIn}
 
 module _ (M n : ℕ) where
   abbrev pub ballotIn : List ℕ → List ℕ → List ℕ → List ℕ → ℕ → List ℕ
-  ballotIn ids rows numbers keys j = ballotCommand (item ids j) (λ q. commitment (inBallot (item ids j) q) (ballotOpeningIn M n rows numbers keys j q))
+  ballotIn ids rows numbers keys j = ballotCommand (item ids j) (λ q. commitment (InBallot (item ids j) q) (ballotOpeningIn M n rows numbers keys j q))
 
   abbrev pub entryIn : List ℕ → List ℕ → List ℕ → ℕ → ℕ → List ℕ
-  entryIn mixed numbers keys l i = entryCommand l i (λ q. commitment (inEntry l i q) (entryOpeningIn M n mixed numbers keys l i q))
+  entryIn mixed numbers keys l i = entryCommand l i (λ q. commitment (InEntry l i q) (entryOpeningIn M n mixed numbers keys l i q))
 
   pub ballot-wide : (ids rows numbers keys : List ℕ) (j : ℕ) → length (ballotIn ids rows numbers keys j) ≡ 197
   ballot-wide ids rows numbers keys j = length-ballot _ _ (λ q lq. length-commitment _ _)
@@ -42,24 +43,24 @@ module _ (M n : ℕ) where
   -- a turn: the ballots before j are written, and then ballot j
   pub ballot-turn : (ids rows numbers keys : List ℕ) (j : ℕ) {l out out' : List ℕ} {a b r : ℕ} {split : Split} → Went l a (chunks (ballotIn ids rows numbers keys) j) out b
       → split ≡ ballotSplit M n rows numbers j
-      → Went out b (ballotCommand (item ids j) (λ q. commitment (inBallot (item ids j) q) (slotOpening split (take (ballotKeysAt j + 192 - ballotKeysAt j) (drop (ballotKeysAt j) keys)) q))) out' r
+      → Went out b (ballotCommand (item ids j) (λ q. commitment (InBallot (item ids j) q) (slotOpening split (take (ballotKeysAt j + 192 - ballotKeysAt j) (drop (ballotKeysAt j) keys)) q))) out' r
       → Went l a (chunks (ballotIn ids rows numbers keys) (j + 1)) out' r
   unfolding ballotOpeningIn
   ballot-turn ids rows numbers keys j h e w =
       go-turn (ballotIn ids rows numbers keys) j h
       (go-same w
-      (ap₂ (λ (s : Split) (k : List ℕ). ballotCommand (item ids j) (λ q. commitment (inBallot (item ids j) q) (slotOpening s k q))) e (part-is keys (ballotKeysAt j) 192)))
+      (ap₂ (λ (s : Split) (k : List ℕ). ballotCommand (item ids j) (λ q. commitment (InBallot (item ids j) q) (slotOpening s k q))) e (part-is keys (ballotKeysAt j) 192)))
 
   -- .. and of a list's entries
   pub entry-turn : (mixed numbers keys : List ℕ) (m i : ℕ) {l out out' : List ℕ} {a b r : ℕ} {split : Split} → Went l a (chunks (entryIn mixed numbers keys m) i) out b
       → split ≡ entrySplit M n mixed numbers m i
-      → Went out b (entryCommand m i (λ q. commitment (inEntry m i q) (slotOpening split (take (entryKeysAt n m i + 192 - entryKeysAt n m i) (drop (entryKeysAt n m i) keys)) q))) out' r
+      → Went out b (entryCommand m i (λ q. commitment (InEntry m i q) (slotOpening split (take (entryKeysAt n m i + 192 - entryKeysAt n m i) (drop (entryKeysAt n m i) keys)) q))) out' r
       → Went l a (chunks (entryIn mixed numbers keys m) (i + 1)) out' r
   unfolding entryOpeningIn
   entry-turn mixed numbers keys m i h e w =
       go-turn (entryIn mixed numbers keys m) i h
       (go-same w
-      (ap₂ (λ (s : Split) (k : List ℕ). entryCommand m i (λ q. commitment (inEntry m i q) (slotOpening s k q))) e (part-is keys (entryKeysAt n m i) 192)))
+      (ap₂ (λ (s : Split) (k : List ℕ). entryCommand m i (λ q. commitment (InEntry m i q) (slotOpening s k q))) e (part-is keys (entryKeysAt n m i) 192)))
 
 -- the parameters, the ballots and the lists, one behind the other, are as long as part one is
 pub part-written : (p : Parameters) (ids rows mixed numbers keys : List ℕ) (k : ℕ) {l first second third : List ℕ} {a b r : ℕ} → k ≡ p .ballots → length l ≡ partOneLength p

@@ -4,13 +4,13 @@ use mathlib.Core.Bool.{true}
 use Prim.Native.Nat.{ℕ}
 use Rattle.laws.specs.Tests.{equal, equal-iff}
 use Rattle.protocol.specs.Layout.{partOneLength}
-use Rattle.protocol.specs.Inputs.{Slices, parametersFor, partOneRefusal}
+use Rattle.protocol.specs.Inputs.{Slices, partOneRefusal}
 use Rattle.protocol.proofs.Unrefused.{unrefused}
 use Rattle.lists.specs.Passed.{Passed}
 
-pub part-ready : (s : Slices) (long : ℕ) {k : ℕ} → k ≡ partOneRefusal s long → k ≡ 0 → Passed s × (long ≡ partOneLength (parametersFor s))
+pub part-ready : (s : Slices) (long : ℕ) {k : ℕ} → k ≡ partOneRefusal s long → k ≡ 0 → Passed s × (long ≡ partOneLength (s .parameters))
 unfolding partOneRefusal
 part-ready s long e z =
-    let lengths = equal long (partOneLength (parametersFor s)) in
+    let lengths = equal long (partOneLength (s .parameters)) in
     let u = unrefused s lengths true true true (sym e ∙ z) in
-    (record { lengths = lengths; fair = true; shape = true; binary = true; tests = u }, equal-iff long (partOneLength (parametersFor s)) .0 (u .lengths-due))
+    (record { lengths = lengths; fair = true; shape = true; binary = true; tests = u }, equal-iff long (partOneLength (s .parameters)) .0 (u .lengths-due))

@@ -6,9 +6,10 @@ ghost use lib.ListN.{length};
 ghost use Rattle.laws.specs.Chunks.{chunks};
 ghost use Rattle.laws.specs.Lent.{before, after};
 ghost use Rattle.laws.specs.Writing.{Went};
+ghost use Rattle.protocol.specs.Terms.{parameters};
 ghost use Rattle.protocol.specs.Layout as places;
 ghost use Rattle.protocol.specs.Record.{firstCommand};
-ghost use Rattle.protocol.specs.Inputs.{given, parametersFor, partOneRefusal, writtenOf, afterwards};
+ghost use Rattle.protocol.specs.Inputs.{given, partOneRefusal, writtenOf, afterwards};
 ghost use Rattle.protocol.specs.Servers.{firstPart};
 ghost use Rattle.lists.specs.Passed.{Passed};
 ghost use Rattle.lists.specs.Entries.{BallotsReady, ListReady};
@@ -122,8 +123,8 @@ fn write_in(
     mixed: &mut [u32],
     out: &mut [u8],
 )
-    requires { ⌜ Passed (given (p .modulus) (p .ballots) (p .compared) (now ids) (now votes) (now numbers) (now permutations) (now keys)) × ((length (now rows) ≡ 3 * p .ballots) × ((length (now mixed) ≡ places.lists p * (3 * p .ballots)) × (length (now out) ≡ places.partOneLength p))) ⌝ }
-    ensures { λ _. ⌜ after out ≡ firstPart (given (p .modulus) (p .ballots) (p .compared) (before ids) (before votes) (before numbers) (before permutations) (before keys)) ⌝ }
+    requires { ⌜ Passed (given p (now ids) (now votes) (now numbers) (now permutations) (now keys)) × ((length (now rows) ≡ 3 * p .ballots) × ((length (now mixed) ≡ places.lists p * (3 * p .ballots)) × (length (now out) ≡ places.partOneLength p))) ⌝ }
+    ensures { λ _. ⌜ after out ≡ firstPart (given p (before ids) (before votes) (before numbers) (before permutations) (before keys)) ⌝ }
 {
     mixing::fill_rows(p.modulus, votes, numbers, rows);
     let lists = 2 * p.compared;
@@ -151,8 +152,8 @@ fn write(
     keys: &[u8],
     out: &mut [u8],
 )
-    requires { ⌜ Passed (given modulus ballots compared (now ids) (now votes) (now numbers) (now permutations) (now keys)) × (length (now out) ≡ places.partOneLength (parametersFor (given modulus ballots compared (now ids) (now votes) (now numbers) (now permutations) (now keys)))) ⌝ }
-    ensures { λ _. ⌜ after out ≡ firstPart (given modulus ballots compared (before ids) (before votes) (before numbers) (before permutations) (before keys)) ⌝ }
+    requires { ⌜ Passed (given (parameters modulus ballots compared) (now ids) (now votes) (now numbers) (now permutations) (now keys)) × (length (now out) ≡ places.partOneLength (parameters modulus ballots compared)) ⌝ }
+    ensures { λ _. ⌜ after out ≡ firstPart (given (parameters modulus ballots compared) (before ids) (before votes) (before numbers) (before permutations) (before keys)) ⌝ }
 {
     let p = Parameters {
         modulus,
@@ -188,8 +189,8 @@ pub fn part_one(
     keys: &[u8],
     out: &mut [u8],
 ) -> Written
-    ensures answer { λ r. ⌜ r ≡ writtenOf (partOneRefusal (given modulus ballots compared (before ids) (before votes) (before numbers) (before permutations) (before keys)) (length (before out))) ⌝ }
-    ensures output { λ _. ⌜ after out ≡ afterwards (partOneRefusal (given modulus ballots compared (before ids) (before votes) (before numbers) (before permutations) (before keys)) (length (before out))) (before out) (firstPart (given modulus ballots compared (before ids) (before votes) (before numbers) (before permutations) (before keys))) ⌝ }
+    ensures answer { λ r. ⌜ r ≡ writtenOf (partOneRefusal (given (parameters modulus ballots compared) (before ids) (before votes) (before numbers) (before permutations) (before keys)) (length (before out))) ⌝ }
+    ensures output { λ _. ⌜ after out ≡ afterwards (partOneRefusal (given (parameters modulus ballots compared) (before ids) (before votes) (before numbers) (before permutations) (before keys)) (length (before out))) (before out) (firstPart (given (parameters modulus ballots compared) (before ids) (before votes) (before numbers) (before permutations) (before keys))) ⌝ }
 {
     let k = refusals::part_one(
         modulus,

@@ -5,7 +5,8 @@ ghost use lib.ListN.{length};
 ghost use Rattle.laws.specs.Chunks.{piece};
 ghost use Rattle.laws.specs.Lent.{before, after};
 ghost use Rattle.laws.specs.Writing.{Went};
-ghost use Rattle.protocol.specs.Terms.{Place, opening, commitment};
+ghost use Rattle.protocol.specs.declared.Place.{Place};
+ghost use Rattle.protocol.specs.Terms.{opening, commitment};
 ghost use Rattle.protocol.specs.Rules as rules;
 
 // Whether the opening at one place of the bytes gives the commitment posted at another.

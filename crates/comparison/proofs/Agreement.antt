@@ -10,7 +10,7 @@ use Rattle.laws.specs.Chunks.{chunks, chunks-same}
 use Rattle.protocol.specs.Terms.{mostBallots}
 use Rattle.protocol.specs.Layout.{lists}
 use Rattle.protocol.specs.Record.{firstDiceCommand, linkCommand, partTwo}
-use Rattle.protocol.specs.Inputs.{Slices, parametersFor, inputsOf}
+use Rattle.protocol.specs.Inputs.{Slices, inputsOf}
 use Rattle.protocol.specs.Servers.{linkPosition, linkShift, postedComparison, secondPart}
 use Rattle.protocol.proofs.Unrefused.{shape-iff}
 use Rattle.lists.specs.Entries.{placeIn, Placed, shiftIn}
@@ -23,24 +23,24 @@ pub places-fit : {m n : ℕ} → m ≤ 12 → n ≤ mostBallots → 2 * m * n �
 places-fit {m} {n} few small = omega (arith, mul-le-mul-right {m = m} {n = 12} n few)
 
 module _ (s : Slices) (dice : List ℕ) (mask outLong : ℕ) (w : Writable s dice mask outLong) (positions : List ℕ)
-    (placed : Placed (s .ballots) (2 * s .compared) (placeIn (s .ballots) (s .permutations)) positions) where
-  pub two-ready : TwoReady (parametersFor s) mask positions (s .numbers)
+    (placed : Placed (s .parameters .ballots) (2 * s .parameters .compared) (placeIn (s .parameters .ballots) (s .permutations)) positions) where
+  pub two-ready : TwoReady (s .parameters) mask positions (s .numbers)
   two-ready = record {
     numbers-ready = numbers-ready s (w .inputs .tests);
     positions-long = placed .long;
     inside = placed .inside;
-    counted = shape-iff (s .compared) mask .0 (w .shape) .0;
-    small = shape-iff (s .compared) mask .0 (w .shape) .1;
+    counted = shape-iff (s .parameters .compared) mask .0 (w .shape) .0;
+    small = shape-iff (s .parameters .compared) mask .0 (w .shape) .1;
   }
 
-  link-is : (l j : ℕ) → l < 2 * s .compared → j < s .ballots
-      → link (s .modulus) (s .ballots) positions (s .numbers) l j ≡ linkCommand l j (linkPosition (inputsOf s) l j) (linkShift (inputsOf s) l j)
+  link-is : (l j : ℕ) → l < 2 * s .parameters .compared → j < s .parameters .ballots
+      → link (s .parameters .modulus) (s .parameters .ballots) positions (s .numbers) l j ≡ linkCommand l j (linkPosition (inputsOf s) l j) (linkShift (inputsOf s) l j)
   link-is l j ll lj =
-      ap (λ (i : ℕ). linkCommand l j i (shiftIn (s .modulus) (s .ballots) (s .numbers) l j i)) (placed-is s (w .inputs .tests) placed .is l j ll lj)
+      ap (λ (i : ℕ). linkCommand l j i (shiftIn (s .parameters .modulus) (s .parameters .ballots) (s .numbers) l j i)) (placed-is s (w .inputs .tests) placed .is l j ll lj)
       ∙ ap (linkCommand l j (linkPosition (inputsOf s) l j)) (shift-is s (w .inputs .tests) l j ll lj)
 
-  pub part-is : firstDiceCommand dice mask ++ chunks (comparedLinks (parametersFor s) mask positions (s .numbers)) (lists (parametersFor s)) ≡ secondPart s dice mask
+  pub part-is : firstDiceCommand dice mask ++ chunks (comparedLinks (s .parameters) mask positions (s .numbers)) (lists (s .parameters)) ≡ secondPart s dice mask
   unfolding secondPart partTwo postedComparison inputsOf
   part-is =
       ap (λ (x : List ℕ). firstDiceCommand dice mask ++ x)
-      (chunks-same _ _ (2 * s .compared) (λ l ll. ap (choose (bit mask l) []) (chunks-same _ _ (s .ballots) (λ j lj. link-is l j ll lj))))
+      (chunks-same _ _ (2 * s .parameters .compared) (λ l ll. ap (choose (bit mask l) []) (chunks-same _ _ (s .parameters .ballots) (λ j lj. link-is l j ll lj))))

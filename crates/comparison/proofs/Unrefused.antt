@@ -25,12 +25,12 @@ mask-given s dice mask outLong e z =
 
 -- the mask drawn: whatever it is drawn from, it has the right shape
 pub mask-drawn : (s : Slices) (dice : List ℕ) (mask oneLong outLong : ℕ) (q : List ℕ) {k : ℕ} → k ≡ partTwoDrawnRefusal s dice oneLong outLong → k ≡ 0
-    → mask ≡ drawnMask (s .compared) q → Writable s dice mask outLong
+    → mask ≡ drawnMask (s .parameters .compared) q → Writable s dice mask outLong
 unfolding partTwoDrawnRefusal
 mask-drawn s dice mask oneLong outLong q e z h =
     let u = unrefused s _ _ _ _ (sym e ∙ z) in
     let long = simp rules at (u .lengths-due) in
-    record { inputs = record { lengths = _; fair = _; shape = _; binary = _; tests = u }; dice-long = long .0; shape = rw h (drawn-mask (s .compared) q); out-long = long .1 .1 }
+    record { inputs = record { lengths = _; fair = _; shape = _; binary = _; tests = u }; dice-long = long .0; shape = rw h (drawn-mask (s .parameters .compared) q); out-long = long .1 .1 }
 
 -- ---- a draw alone
 

@@ -11,7 +11,7 @@ use Rattle.protocol.specs.Terms.{item}
 use Rattle.protocol.specs.Layout.{lists, partTwoLength}
 use Rattle.protocol.specs.Record.{linkCommand}
 use Rattle.protocol.specs.Rules.{rightShape}
-use Rattle.protocol.specs.Inputs.{Slices, parametersFor}
+use Rattle.protocol.specs.Inputs.{Slices}
 use Rattle.lists.specs.Entries.{NumbersReady, shiftIn}
 use Rattle.lists.specs.Passed.{Passed}
 
@@ -34,5 +34,5 @@ pub record TwoReady (p : Parameters) (mask : ℕ) (positions numbers : List ℕ)
 pub record Writable (s : Slices) (dice : List ℕ) (mask outLong : ℕ) : Type 0 where
   pub inputs : Passed s
   pub dice-long : length dice ≡ 30
-  pub shape : rightShape (s .compared) mask ≡ true
-  pub out-long : outLong ≡ partTwoLength (parametersFor s)
+  pub shape : rightShape (s .parameters .compared) mask ≡ true
+  pub out-long : outLong ≡ partTwoLength (s .parameters)

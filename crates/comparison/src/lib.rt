@@ -8,6 +8,7 @@ ghost use Rattle.laws.specs.Lent.{before, after};
 ghost use Rattle.laws.specs.Masks.{bit};
 ghost use Rattle.laws.specs.Tests.{choose};
 ghost use Rattle.laws.specs.Writing.{Went};
+ghost use Rattle.protocol.specs.Terms.{parameters};
 ghost use Rattle.protocol.specs.Layout as places;
 ghost use Rattle.protocol.specs.Record.{firstDiceCommand};
 ghost use Rattle.protocol.specs.Drawing as drawing;
@@ -117,8 +118,8 @@ fn write(
     mask: u32,
     out: &mut [u8],
 )
-    requires { ⌜ Writable (given modulus ballots compared (now ids) (now votes) (now numbers) (now permutations) (now keys)) (now dice) mask (length (now out)) ⌝ }
-    ensures { λ _. ⌜ after out ≡ secondPart (given modulus ballots compared (before ids) (before votes) (before numbers) (before permutations) (before keys)) (before dice) mask ⌝ }
+    requires { ⌜ Writable (given (parameters modulus ballots compared) (now ids) (now votes) (now numbers) (now permutations) (now keys)) (now dice) mask (length (now out)) ⌝ }
+    ensures { λ _. ⌜ after out ≡ secondPart (given (parameters modulus ballots compared) (before ids) (before votes) (before numbers) (before permutations) (before keys)) (before dice) mask ⌝ }
 {
     let p = Parameters {
         modulus,
@@ -147,8 +148,8 @@ pub fn part_two(
     mask: u32,
     out: &mut [u8],
 ) -> Written
-    ensures answer { λ r. ⌜ r ≡ writtenOf (partTwoRefusal (given modulus ballots compared (before ids) (before votes) (before numbers) (before permutations) (before keys)) (before dice) mask (length (before out))) ⌝ }
-    ensures output { λ _. ⌜ after out ≡ afterwards (partTwoRefusal (given modulus ballots compared (before ids) (before votes) (before numbers) (before permutations) (before keys)) (before dice) mask (length (before out))) (before out) (secondPart (given modulus ballots compared (before ids) (before votes) (before numbers) (before permutations) (before keys)) (before dice) mask) ⌝ }
+    ensures answer { λ r. ⌜ r ≡ writtenOf (partTwoRefusal (given (parameters modulus ballots compared) (before ids) (before votes) (before numbers) (before permutations) (before keys)) (before dice) mask (length (before out))) ⌝ }
+    ensures output { λ _. ⌜ after out ≡ afterwards (partTwoRefusal (given (parameters modulus ballots compared) (before ids) (before votes) (before numbers) (before permutations) (before keys)) (before dice) mask (length (before out))) (before out) (secondPart (given (parameters modulus ballots compared) (before ids) (before votes) (before numbers) (before permutations) (before keys)) (before dice) mask) ⌝ }
 {
     let k = refusals::part_two(
         modulus,
@@ -205,8 +206,8 @@ pub fn part_two_drawn(
     one: &[u8],
     out: &mut [u8],
 ) -> Written
-    ensures answer { λ r. ⌜ r ≡ writtenOf (partTwoDrawnRefusal (given modulus ballots compared (before ids) (before votes) (before numbers) (before permutations) (before keys)) (before dice) (length (before one)) (length (before out))) ⌝ }
-    ensures output { λ _. ⌜ after out ≡ afterwards (partTwoDrawnRefusal (given modulus ballots compared (before ids) (before votes) (before numbers) (before permutations) (before keys)) (before dice) (length (before one)) (length (before out))) (before out) (secondPart (given modulus ballots compared (before ids) (before votes) (before numbers) (before permutations) (before keys)) (before dice) (maskFor (given modulus ballots compared (before ids) (before votes) (before numbers) (before permutations) (before keys)) (before dice) (before one))) ⌝ }
+    ensures answer { λ r. ⌜ r ≡ writtenOf (partTwoDrawnRefusal (given (parameters modulus ballots compared) (before ids) (before votes) (before numbers) (before permutations) (before keys)) (before dice) (length (before one)) (length (before out))) ⌝ }
+    ensures output { λ _. ⌜ after out ≡ afterwards (partTwoDrawnRefusal (given (parameters modulus ballots compared) (before ids) (before votes) (before numbers) (before permutations) (before keys)) (before dice) (length (before one)) (length (before out))) (before out) (secondPart (given (parameters modulus ballots compared) (before ids) (before votes) (before numbers) (before permutations) (before keys)) (before dice) (maskFor (given (parameters modulus ballots compared) (before ids) (before votes) (before numbers) (before permutations) (before keys)) (before dice) (before one))) ⌝ }
 {
     let k = refusals::part_two_drawn(
         modulus,

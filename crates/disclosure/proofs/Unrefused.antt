@@ -28,7 +28,7 @@ sides-given s dice mask sides outLong e z =
 
 -- the sides drawn: whatever they are drawn from, there is one for each ballot
 pub sides-drawn : (s : Slices) (dice : List ℕ) (mask : ℕ) (sides : List ℕ) (oneLong twoLong outLong : ℕ) (q : List ℕ) {k : ℕ}
-    → k ≡ partThreeDrawnRefusal s dice mask oneLong twoLong outLong → k ≡ 0 → sides ≡ drawnSides (s .ballots) q → Writable s dice mask sides outLong
+    → k ≡ partThreeDrawnRefusal s dice mask oneLong twoLong outLong → k ≡ 0 → sides ≡ drawnSides (s .parameters .ballots) q → Writable s dice mask sides outLong
 unfolding partThreeDrawnRefusal
 sides-drawn s dice mask sides oneLong twoLong outLong q e z h =
     let u = unrefused s _ _ _ _ (sym e ∙ z) in
@@ -37,7 +37,7 @@ sides-drawn s dice mask sides oneLong twoLong outLong q e z h =
       inputs = record { lengths = _; fair = _; shape = _; binary = _; tests = u };
       dice-long = long .0;
       shape = u .right-shape;
-      sides-long = ap length h ∙ length-drawn (s .ballots) q;
+      sides-long = ap length h ∙ length-drawn (s .parameters .ballots) q;
       binary = rw h (drawn-sides s q);
       out-long = long .1 .1 .1;
     }

@@ -4,7 +4,7 @@ ghost use mathlib.Core.List.{_++_};
 ghost use Prim.Native.Nat.{_≤_};
 ghost use lib.ListN.{length};
 ghost use Rattle.laws.specs.Lent.{before, after};
-ghost use Rattle.protocol.specs.Terms.{mostBallots};
+ghost use Rattle.protocol.specs.Terms.{parameters, mostBallots};
 ghost use Rattle.protocol.specs.Drawing as drawing;
 ghost use Rattle.protocol.specs.Drawing.{drawnSides};
 ghost use Rattle.protocol.specs.Inputs.{given, partThreeRefusal, partThreeDrawnRefusal, writtenOf, afterwards};
@@ -26,8 +26,8 @@ pub fn part_three(
     sides: &[u8],
     out: &mut [u8],
 ) -> Written
-    ensures answer { λ r. ⌜ r ≡ writtenOf (partThreeRefusal (given modulus ballots compared (before ids) (before votes) (before numbers) (before permutations) (before keys)) (before dice) mask (before sides) (length (before out))) ⌝ }
-    ensures output { λ _. ⌜ after out ≡ afterwards (partThreeRefusal (given modulus ballots compared (before ids) (before votes) (before numbers) (before permutations) (before keys)) (before dice) mask (before sides) (length (before out))) (before out) (thirdPart (given modulus ballots compared (before ids) (before votes) (before numbers) (before permutations) (before keys)) (before dice) mask (before sides)) ⌝ }
+    ensures answer { λ r. ⌜ r ≡ writtenOf (partThreeRefusal (given (parameters modulus ballots compared) (before ids) (before votes) (before numbers) (before permutations) (before keys)) (before dice) mask (before sides) (length (before out))) ⌝ }
+    ensures output { λ _. ⌜ after out ≡ afterwards (partThreeRefusal (given (parameters modulus ballots compared) (before ids) (before votes) (before numbers) (before permutations) (before keys)) (before dice) mask (before sides) (length (before out))) (before out) (thirdPart (given (parameters modulus ballots compared) (before ids) (before votes) (before numbers) (before permutations) (before keys)) (before dice) mask (before sides)) ⌝ }
 {
     let k = refusals::part_three(
         modulus,
@@ -92,8 +92,8 @@ pub fn part_three_drawn(
     two: &[u8],
     out: &mut [u8],
 ) -> Written
-    ensures answer { λ r. ⌜ r ≡ writtenOf (partThreeDrawnRefusal (given modulus ballots compared (before ids) (before votes) (before numbers) (before permutations) (before keys)) (before dice) mask (length (before one)) (length (before two)) (length (before out))) ⌝ }
-    ensures output { λ _. ⌜ after out ≡ afterwards (partThreeDrawnRefusal (given modulus ballots compared (before ids) (before votes) (before numbers) (before permutations) (before keys)) (before dice) mask (length (before one)) (length (before two)) (length (before out))) (before out) (thirdPart (given modulus ballots compared (before ids) (before votes) (before numbers) (before permutations) (before keys)) (before dice) mask (sidesFor (given modulus ballots compared (before ids) (before votes) (before numbers) (before permutations) (before keys)) (before dice) (before one) (before two))) ⌝ }
+    ensures answer { λ r. ⌜ r ≡ writtenOf (partThreeDrawnRefusal (given (parameters modulus ballots compared) (before ids) (before votes) (before numbers) (before permutations) (before keys)) (before dice) mask (length (before one)) (length (before two)) (length (before out))) ⌝ }
+    ensures output { λ _. ⌜ after out ≡ afterwards (partThreeDrawnRefusal (given (parameters modulus ballots compared) (before ids) (before votes) (before numbers) (before permutations) (before keys)) (before dice) mask (length (before one)) (length (before two)) (length (before out))) (before out) (thirdPart (given (parameters modulus ballots compared) (before ids) (before votes) (before numbers) (before permutations) (before keys)) (before dice) mask (sidesFor (given (parameters modulus ballots compared) (before ids) (before votes) (before numbers) (before permutations) (before keys)) (before dice) (before one) (before two))) ⌝ }
 {
     let k = refusals::part_three_drawn(
         modulus,

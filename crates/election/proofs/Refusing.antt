@@ -12,7 +12,7 @@ use Rattle.laws.specs.Faults.{rules}
 use Rattle.protocol.specs.Layout.{partOneLength, partTwoLength, partThreeLength, atFirstDice}
 use Rattle.protocol.specs.Drawing.{challenge}
 use Rattle.protocol.specs.Rules.{fairDice, rightShape}
-use Rattle.protocol.specs.Inputs.{Slices, parametersFor, refusal, binarySides, partOneRefusal, partTwoRefusal, partTwoDrawnRefusal, partThreeRefusal, partThreeDrawnRefusal}
+use Rattle.protocol.specs.Inputs.{Slices, refusal, binarySides, partOneRefusal, partTwoRefusal, partTwoDrawnRefusal, partThreeRefusal, partThreeDrawnRefusal}
 use Rattle.protocol.specs.Servers.{maskFor, firstPart}
 use Rattle.protocol.specs.Election.{Choice, chosen, drawn, maskBy, secondRefusal, thirdRefusal, electionMask}
 use Rattle.protocol.proofs.Unrefused.{unrefused}
@@ -50,16 +50,16 @@ module _ (s : Slices) (dice : List ℕ) {b : Bool} {k : ℕ} where
   mask-drawn mask oneLong outLong off e = rw off e
 
   module _ (sides : List ℕ) (mask oneLong twoLong outLong : ℕ) where
-    pub sides-given : b ≡ true → rightShape (s .compared) mask ≡ true
-        → k ≡ refusal s (equal (length dice) 30 and equal (length sides) (s .ballots) and equal outLong (partThreeLength (parametersFor s))) (fairDice dice) true (binarySides s sides)
+    pub sides-given : b ≡ true → rightShape (s .parameters .compared) mask ≡ true
+        → k ≡ refusal s (equal (length dice) 30 and equal (length sides) (s .parameters .ballots) and equal outLong (partThreeLength (s .parameters))) (fairDice dice) true (binarySides s sides)
         → k ≡ thirdRefusal s (choiceOf b sides) dice mask oneLong twoLong outLong
     unfolding choiceOf thirdRefusal partThreeRefusal
     sides-given on shape e = rw (on, shape) e
 
-    pub sides-drawn : b ≡ false → rightShape (s .compared) mask ≡ true
+    pub sides-drawn : b ≡ false → rightShape (s .parameters .compared) mask ≡ true
         → k ≡ refusal s
-        (equal (length dice) 30 and equal oneLong (partOneLength (parametersFor s)) and equal twoLong (partTwoLength (parametersFor s))
-        and equal outLong (partThreeLength (parametersFor s)))
+        (equal (length dice) 30 and equal oneLong (partOneLength (s .parameters)) and equal twoLong (partTwoLength (s .parameters))
+        and equal outLong (partThreeLength (s .parameters)))
         (fairDice dice) true true
         → k ≡ thirdRefusal s (choiceOf b sides) dice mask oneLong twoLong outLong
     unfolding choiceOf thirdRefusal partThreeDrawnRefusal
@@ -69,10 +69,10 @@ module _ (s : Slices) (dice : List ℕ) {b : Bool} {k : ℕ} where
 
 -- the mask, given or drawn, has the right shape
 pub mask-shape : (s : Slices) (byMask : Choice ℕ) (dice : List ℕ) (oneLong outLong : ℕ) {k : ℕ} → k ≡ secondRefusal s byMask dice oneLong outLong → k ≡ 0
-    → rightShape (s .compared) (electionMask s byMask dice) ≡ true
+    → rightShape (s .parameters .compared) (electionMask s byMask dice) ≡ true
 unfolding secondRefusal partTwoRefusal electionMask maskBy maskFor
 mask-shape s (chosen mask) dice oneLong outLong e z = unrefused s _ _ _ _ (sym e ∙ z) .right-shape
-mask-shape s drawn dice oneLong outLong e z = drawn-mask (s .compared) (challenge dice (firstPart s))
+mask-shape s drawn dice oneLong outLong e z = drawn-mask (s .parameters .compared) (challenge dice (firstPart s))
 
 -- none of the three calls
 pub record Calls (s : Slices) (byMask : Choice ℕ) (dice₁ : List ℕ) (bySides : Choice (List ℕ)) (dice₂ : List ℕ) (oneLong twoLong threeLong : ℕ) : Type 0 where
@@ -81,19 +81,19 @@ pub record Calls (s : Slices) (byMask : Choice ℕ) (dice₁ : List ℕ) (bySide
   pub three : thirdRefusal s bySides dice₂ (electionMask s byMask dice₁) oneLong twoLong threeLong ≡ 0
 
 module _ (s : Slices) where
-  first-long : (oneLong : ℕ) → partOneRefusal s oneLong ≡ 0 → (oneLong ≡ partOneLength (parametersFor s)) × ((s .ballots ≤ 1024) × (s .compared ≤ 12))
+  first-long : (oneLong : ℕ) → partOneRefusal s oneLong ≡ 0 → (oneLong ≡ partOneLength (s .parameters)) × ((s .parameters .ballots ≤ 1024) × (s .parameters .compared ≤ 12))
   unfolding partOneRefusal
   first-long oneLong h =
       let u = unrefused s _ _ _ _ h in
       (simp rules at (u .lengths-due), (u .ballots-high, u .compared-high))
 
-  second-long : (byMask : Choice ℕ) (dice : List ℕ) (oneLong outLong : ℕ) → secondRefusal s byMask dice oneLong outLong ≡ 0 → outLong ≡ partTwoLength (parametersFor s)
+  second-long : (byMask : Choice ℕ) (dice : List ℕ) (oneLong outLong : ℕ) → secondRefusal s byMask dice oneLong outLong ≡ 0 → outLong ≡ partTwoLength (s .parameters)
   unfolding secondRefusal partTwoRefusal partTwoDrawnRefusal
   second-long (chosen mask) dice oneLong outLong h = let long = simp rules at (unrefused s _ _ _ _ h .lengths-due) in long .1
   second-long drawn dice oneLong outLong h = let long = simp rules at (unrefused s _ _ _ _ h .lengths-due) in long .1 .1
 
   third-long : (bySides : Choice (List ℕ)) (dice : List ℕ) (mask oneLong twoLong outLong : ℕ) → thirdRefusal s bySides dice mask oneLong twoLong outLong ≡ 0
-      → outLong ≡ partThreeLength (parametersFor s)
+      → outLong ≡ partThreeLength (s .parameters)
   unfolding thirdRefusal partThreeRefusal partThreeDrawnRefusal
   third-long (chosen sides) dice mask oneLong twoLong outLong h = let long = simp rules at (unrefused s _ _ _ _ h .lengths-due) in long .1 .1
   third-long drawn dice mask oneLong twoLong outLong h = let long = simp rules at (unrefused s _ _ _ _ h .lengths-due) in long .1 .1 .1
@@ -101,7 +101,7 @@ module _ (s : Slices) where
 -- as the tests answered
 pub calls : (s : Slices) (byMask : Choice ℕ) (dice₁ : List ℕ) (bySides : Choice (List ℕ)) (dice₂ : List ℕ) (oneLong twoLong threeLong : ℕ) {k₁ k₂ k₃ : ℕ}
     → k₁ ≡ partOneRefusal s oneLong → k₁ ≡ 0 → k₂ ≡ secondRefusal s byMask dice₁ oneLong twoLong → k₂ ≡ 0
-    → ((mask : ℕ) → rightShape (s .compared) mask ≡ true → k₃ ≡ thirdRefusal s bySides dice₂ mask oneLong twoLong threeLong) → k₃ ≡ 0
+    → ((mask : ℕ) → rightShape (s .parameters .compared) mask ≡ true → k₃ ≡ thirdRefusal s bySides dice₂ mask oneLong twoLong threeLong) → k₃ ≡ 0
     → Calls s byMask dice₁ bySides dice₂ oneLong twoLong threeLong
 calls s byMask dice₁ bySides dice₂ oneLong twoLong threeLong e₁ z₁ e₂ z₂ e₃ z₃ =
     record { one = sym e₁ ∙ z₁; two = sym e₂ ∙ z₂; three = sym (e₃ _ (mask-shape s byMask dice₁ oneLong twoLong e₂ z₂)) ∙ z₃ }
@@ -114,7 +114,7 @@ module _ {s : Slices} {byMask : Choice ℕ} {dice₁ : List ℕ} {bySides : Choi
       let (one, (few, lists)) = first-long s oneLong (h .one) in
       let two = second-long s byMask dice₁ oneLong twoLong (h .two) in
       let three = third-long s bySides dice₂ _ oneLong twoLong threeLong (h .three) in
-      let most : s .compared * s .ballots ≤ 12 * s .ballots = mul-le-mul-right {m = s .compared} {n = 12} (s .ballots) lists in
+      let most : s .parameters .compared * s .parameters .ballots ≤ 12 * s .parameters .ballots = mul-le-mul-right {m = s .parameters .compared} {n = 12} (s .parameters .ballots) lists in
       omega arith
 
   pub unrefusing : Calls s byMask dice₁ bySides dice₂ oneLong twoLong threeLong → Unrefusing s byMask dice₁ bySides dice₂

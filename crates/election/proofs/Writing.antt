@@ -9,7 +9,7 @@ use Rattle.laws.specs.Faults.{rules}
 use Rattle.laws.specs.Writing.{Went, go-on, go-same, whole}
 use Rattle.protocol.specs.declared.Draw.the-variants.{Mask, Refused}
 use Rattle.protocol.specs.Terms.{modulusInLimits, ballotsInLimits, listsInLimits, inLimits}
-use Rattle.protocol.specs.Inputs.{Slices, parametersFor, partTwoRefusal, partTwoDrawnRefusal, partThreeRefusal, partThreeDrawnRefusal, afterwards}
+use Rattle.protocol.specs.Inputs.{Slices, partTwoRefusal, partTwoDrawnRefusal, partThreeRefusal, partThreeDrawnRefusal, afterwards}
 use Rattle.protocol.specs.Servers.{firstPart, secondPart, maskFor, thirdPart, sidesFor}
 use Rattle.protocol.specs.Results.{drawRefusal, drawOf}
 use Rattle.protocol.specs.Results as results
@@ -39,23 +39,23 @@ module _ (s : Slices) (dice : List ℕ) (b : Bool) (mask : ℕ) (one : List ℕ)
     drawn-kept = rw off at kept
 
     -- a draw tests no more than the call did
-    draw-kept : drawRefusal (parametersFor s) dice (length one) ≡ 0
+    draw-kept : drawRefusal (s .parameters) dice (length one) ≡ 0
     unfolding drawRefusal inLimits modulusInLimits ballotsInLimits listsInLimits partTwoDrawnRefusal
     draw-kept =
         let u = unrefused s _ _ _ _ drawn-kept in
         let long = simp rules at (u .lengths-due) in
         simp rules (((u .modulus-low, u .modulus-high), ((u .ballots-low, u .ballots-high), (u .compared-low, u .compared-high))), ((long .0, long .1 .0), (u .fair-dice, refl)))
 
-    pub draw-is : results.drawn (parametersFor s) dice one ≡ Mask (maskFor s dice one)
+    pub draw-is : results.drawn (s .parameters) dice one ≡ Mask (maskFor s dice one)
     unfolding results.drawn drawOf maskFor
     draw-is = rw draw-kept refl
 
     pub second-drawn : (before : List ℕ) {after : List ℕ} {r : ℕ} → after ≡ afterwards (partTwoDrawnRefusal s dice (length one) outLong) before (secondPart s dice (maskFor s dice one))
-        → results.drawn (parametersFor s) dice one ≡ Mask r → Second r after
+        → results.drawn (s .parameters) dice one ≡ Mask r → Second r after
     unfolding choiceOf maskBy
     second-drawn before {r = r} e d = let m : r ≡ maskFor s dice one = cc draw-is in rw off (m, written before drawn-kept e)
 
-    pub never-refused : {k : ℕ} → results.drawn (parametersFor s) dice one ≡ Refused k → ⊥
+    pub never-refused : {k : ℕ} → results.drawn (s .parameters) dice one ≡ Refused k → ⊥
     never-refused e = let z : _≡_ {A = ℕ} 0 1 = cc draw-is in omega arith
 
 -- ---- the third call

@@ -7,6 +7,7 @@ ghost use Prim.Native.Nat.{ℕ, _+_};
 ghost use lib.ListN.{length};
 ghost use Rattle.laws.specs.Lent.{before, after};
 ghost use Rattle.laws.specs.Sorting.{sort};
+ghost use Rattle.protocol.specs.Terms.{parameters};
 ghost use Rattle.protocol.specs.declared.Verdict.the-variants as verdicts;
 ghost use Rattle.protocol.specs.Rules.{rightShape};
 ghost use Rattle.protocol.specs.Inputs.{given, afterwards};
@@ -41,7 +42,7 @@ fn refuse_second(
     one_len: usize,
     out_len: usize,
 ) -> u32
-    ensures { λ r. ⌜ r ≡ secondRefusal (given modulus ballots compared (before ids) (before votes) (before numbers) (before permutations) (before keys)) (choiceOf «mask_given» mask) (before dice) «one_len» «out_len» ⌝ }
+    ensures { λ r. ⌜ r ≡ secondRefusal (given (parameters modulus ballots compared) (before ids) (before votes) (before numbers) (before permutations) (before keys)) (choiceOf «mask_given» mask) (before dice) «one_len» «out_len» ⌝ }
 {
     if mask_given {
         return refusals::part_two(
@@ -90,7 +91,7 @@ fn refuse_third(
     two_len: usize,
     out_len: usize,
 ) -> u32
-    ensures { λ r. ⌜ ((mask : ℕ) → rightShape compared mask ≡ true → r ≡ thirdRefusal (given modulus ballots compared (before ids) (before votes) (before numbers) (before permutations) (before keys)) (choiceOf «sides_given» (before sides)) (before dice) mask «one_len» «two_len» «out_len») ⌝ }
+    ensures { λ r. ⌜ ((mask : ℕ) → rightShape compared mask ≡ true → r ≡ thirdRefusal (given (parameters modulus ballots compared) (before ids) (before votes) (before numbers) (before permutations) (before keys)) (choiceOf «sides_given» (before sides)) (before dice) mask «one_len» «two_len» «out_len») ⌝ }
 {
     if sides_given {
         return refusals::part_three_shaped(
@@ -146,7 +147,7 @@ fn refuse(
     three_len: usize,
     joined_len: usize,
 ) -> u32
-    ensures { λ r. ⌜ r ≡ electionRefusal (given modulus ballots compared (before ids) (before votes) (before numbers) (before permutations) (before keys)) (choiceOf «mask_given» mask) (before «first_dice») (choiceOf «sides_given» (before sides)) (before «second_dice») «one_len» «two_len» «three_len» «joined_len» ⌝ }
+    ensures { λ r. ⌜ r ≡ electionRefusal (given (parameters modulus ballots compared) (before ids) (before votes) (before numbers) (before permutations) (before keys)) (choiceOf «mask_given» mask) (before «first_dice») (choiceOf «sides_given» (before sides)) (before «second_dice») «one_len» «two_len» «three_len» «joined_len» ⌝ }
 {
     let first = refusals::part_one(
         modulus,
@@ -221,9 +222,9 @@ fn second(
     one: &[u8],
     two: &mut [u8],
 ) -> u32
-    requires { ⌜ secondRefusal (given modulus ballots compared (now ids) (now votes) (now numbers) (now permutations) (now keys)) (choiceOf «mask_given» mask) (now dice) (length (now one)) (length (now two)) ≡ 0 ⌝ }
-    ensures mask { λ r. ⌜ r ≡ maskBy (given modulus ballots compared (before ids) (before votes) (before numbers) (before permutations) (before keys)) (choiceOf «mask_given» mask) (before dice) (before one) ⌝ }
-    ensures output { λ _. ⌜ after two ≡ secondPart (given modulus ballots compared (before ids) (before votes) (before numbers) (before permutations) (before keys)) (before dice) (maskBy (given modulus ballots compared (before ids) (before votes) (before numbers) (before permutations) (before keys)) (choiceOf «mask_given» mask) (before dice) (before one)) ⌝ }
+    requires { ⌜ secondRefusal (given (parameters modulus ballots compared) (now ids) (now votes) (now numbers) (now permutations) (now keys)) (choiceOf «mask_given» mask) (now dice) (length (now one)) (length (now two)) ≡ 0 ⌝ }
+    ensures mask { λ r. ⌜ r ≡ maskBy (given (parameters modulus ballots compared) (before ids) (before votes) (before numbers) (before permutations) (before keys)) (choiceOf «mask_given» mask) (before dice) (before one) ⌝ }
+    ensures output { λ _. ⌜ after two ≡ secondPart (given (parameters modulus ballots compared) (before ids) (before votes) (before numbers) (before permutations) (before keys)) (before dice) (maskBy (given (parameters modulus ballots compared) (before ids) (before votes) (before numbers) (before permutations) (before keys)) (choiceOf «mask_given» mask) (before dice) (before one)) ⌝ }
 {
     if mask_given {
         comparison::part_two(
@@ -278,8 +279,8 @@ fn third(
     two: &[u8],
     three: &mut [u8],
 )
-    requires { ⌜ thirdRefusal (given modulus ballots compared (now ids) (now votes) (now numbers) (now permutations) (now keys)) (choiceOf «sides_given» (now sides)) (now dice) mask (length (now one)) (length (now two)) (length (now three)) ≡ 0 ⌝ }
-    ensures { λ _. ⌜ after three ≡ thirdPart (given modulus ballots compared (before ids) (before votes) (before numbers) (before permutations) (before keys)) (before dice) mask (sidesBy (given modulus ballots compared (before ids) (before votes) (before numbers) (before permutations) (before keys)) (choiceOf «sides_given» (before sides)) (before dice) (before one) (before two)) ⌝ }
+    requires { ⌜ thirdRefusal (given (parameters modulus ballots compared) (now ids) (now votes) (now numbers) (now permutations) (now keys)) (choiceOf «sides_given» (now sides)) (now dice) mask (length (now one)) (length (now two)) (length (now three)) ≡ 0 ⌝ }
+    ensures { λ _. ⌜ after three ≡ thirdPart (given (parameters modulus ballots compared) (before ids) (before votes) (before numbers) (before permutations) (before keys)) (before dice) mask (sidesBy (given (parameters modulus ballots compared) (before ids) (before votes) (before numbers) (before permutations) (before keys)) (choiceOf «sides_given» (before sides)) (before dice) (before one) (before two)) ⌝ }
 {
     if sides_given {
         disclosure::part_three(
@@ -346,11 +347,11 @@ fn write(
     three: &mut [u8],
     joined: &mut [u8],
 )
-    requires { ⌜ electionRefusal (given modulus ballots compared (now ids) (now votes) (now numbers) (now permutations) (now keys)) (choiceOf «mask_given» mask) (now «first_dice») (choiceOf «sides_given» (now sides)) (now «second_dice») (length (now one)) (length (now two)) (length (now three)) (length (now joined)) ≡ 0 ⌝ }
-    ensures one { λ _. ⌜ after one ≡ firstPart (given modulus ballots compared (before ids) (before votes) (before numbers) (before permutations) (before keys)) ⌝ }
-    ensures two { λ _. ⌜ after two ≡ (electionTwo (given modulus ballots compared (before ids) (before votes) (before numbers) (before permutations) (before keys)) (choiceOf «mask_given» mask) (before «first_dice»)) ⌝ }
-    ensures three { λ _. ⌜ after three ≡ (electionThree (given modulus ballots compared (before ids) (before votes) (before numbers) (before permutations) (before keys)) (choiceOf «mask_given» mask) (before «first_dice») (choiceOf «sides_given» (before sides)) (before «second_dice»)) ⌝ }
-    ensures joined { λ _. ⌜ after joined ≡ (electionRecord (given modulus ballots compared (before ids) (before votes) (before numbers) (before permutations) (before keys)) (choiceOf «mask_given» mask) (before «first_dice») (choiceOf «sides_given» (before sides)) (before «second_dice»)) ⌝ }
+    requires { ⌜ electionRefusal (given (parameters modulus ballots compared) (now ids) (now votes) (now numbers) (now permutations) (now keys)) (choiceOf «mask_given» mask) (now «first_dice») (choiceOf «sides_given» (now sides)) (now «second_dice») (length (now one)) (length (now two)) (length (now three)) (length (now joined)) ≡ 0 ⌝ }
+    ensures one { λ _. ⌜ after one ≡ firstPart (given (parameters modulus ballots compared) (before ids) (before votes) (before numbers) (before permutations) (before keys)) ⌝ }
+    ensures two { λ _. ⌜ after two ≡ (electionTwo (given (parameters modulus ballots compared) (before ids) (before votes) (before numbers) (before permutations) (before keys)) (choiceOf «mask_given» mask) (before «first_dice»)) ⌝ }
+    ensures three { λ _. ⌜ after three ≡ (electionThree (given (parameters modulus ballots compared) (before ids) (before votes) (before numbers) (before permutations) (before keys)) (choiceOf «mask_given» mask) (before «first_dice») (choiceOf «sides_given» (before sides)) (before «second_dice»)) ⌝ }
+    ensures joined { λ _. ⌜ after joined ≡ (electionRecord (given (parameters modulus ballots compared) (before ids) (before votes) (before numbers) (before permutations) (before keys)) (choiceOf «mask_given» mask) (before «first_dice») (choiceOf «sides_given» (before sides)) (before «second_dice»)) ⌝ }
 {
     board::part_one(
         modulus,
@@ -420,14 +421,14 @@ pub fn hold(
     three: &mut [u8],
     joined: &mut [u8],
 ) -> Outcome
-    ensures answer { λ r. ⌜ r ≡ outcomeOf (electionRefusal (given modulus ballots compared (before ids) (before votes) (before numbers) (before permutations) (before keys)) (choiceOf «mask_given» mask) (before «first_dice») (choiceOf «sides_given» (before sides)) (before «second_dice») (length (before one)) (length (before two)) (length (before three)) (length (before joined))) (judged false (electionRecord (given modulus ballots compared (before ids) (before votes) (before numbers) (before permutations) (before keys)) (choiceOf «mask_given» mask) (before «first_dice») (choiceOf «sides_given» (before sides)) (before «second_dice»))) ⌝ }
-    ensures one { λ _. ⌜ after one ≡ afterwards (electionRefusal (given modulus ballots compared (before ids) (before votes) (before numbers) (before permutations) (before keys)) (choiceOf «mask_given» mask) (before «first_dice») (choiceOf «sides_given» (before sides)) (before «second_dice») (length (before one)) (length (before two)) (length (before three)) (length (before joined))) (before one) (firstPart (given modulus ballots compared (before ids) (before votes) (before numbers) (before permutations) (before keys))) ⌝ }
-    ensures two { λ _. ⌜ after two ≡ afterwards (electionRefusal (given modulus ballots compared (before ids) (before votes) (before numbers) (before permutations) (before keys)) (choiceOf «mask_given» mask) (before «first_dice») (choiceOf «sides_given» (before sides)) (before «second_dice») (length (before one)) (length (before two)) (length (before three)) (length (before joined))) (before two) (electionTwo (given modulus ballots compared (before ids) (before votes) (before numbers) (before permutations) (before keys)) (choiceOf «mask_given» mask) (before «first_dice»)) ⌝ }
-    ensures three { λ _. ⌜ after three ≡ afterwards (electionRefusal (given modulus ballots compared (before ids) (before votes) (before numbers) (before permutations) (before keys)) (choiceOf «mask_given» mask) (before «first_dice») (choiceOf «sides_given» (before sides)) (before «second_dice») (length (before one)) (length (before two)) (length (before three)) (length (before joined))) (before three) (electionThree (given modulus ballots compared (before ids) (before votes) (before numbers) (before permutations) (before keys)) (choiceOf «mask_given» mask) (before «first_dice») (choiceOf «sides_given» (before sides)) (before «second_dice»)) ⌝ }
-    ensures joined { λ _. ⌜ after joined ≡ afterwards (electionRefusal (given modulus ballots compared (before ids) (before votes) (before numbers) (before permutations) (before keys)) (choiceOf «mask_given» mask) (before «first_dice») (choiceOf «sides_given» (before sides)) (before «second_dice») (length (before one)) (length (before two)) (length (before three)) (length (before joined))) (before joined) (electionRecord (given modulus ballots compared (before ids) (before votes) (before numbers) (before permutations) (before keys)) (choiceOf «mask_given» mask) (before «first_dice») (choiceOf «sides_given» (before sides)) (before «second_dice»)) ⌝ }
-    ensures accepted { λ r. ⌜ ((electionRefusal (given modulus ballots compared (before ids) (before votes) (before numbers) (before permutations) (before keys)) (choiceOf «mask_given» mask) (before «first_dice») (choiceOf «sides_given» (before sides)) (before «second_dice») (length (before one)) (length (before two)) (length (before three)) (length (before joined))) ≡ 0 → r ≡ Outcome.Accepted) ⌝ }
-    ensures announced { λ _. ⌜ ((electionRefusal (given modulus ballots compared (before ids) (before votes) (before numbers) (before permutations) (before keys)) (choiceOf «mask_given» mask) (before «first_dice») (choiceOf «sides_given» (before sides)) (before «second_dice») (length (before one)) (length (before two)) (length (before three)) (length (before joined))) ≡ 0 → announcedVotes (after joined) ≡ sort (before votes)) ⌝ }
-    ensures drawn { λ _. ⌜ («mask_given» ≡ false → «sides_given» ≡ false → (electionRefusal (given modulus ballots compared (before ids) (before votes) (before numbers) (before permutations) (before keys)) (choiceOf «mask_given» mask) (before «first_dice») (choiceOf «sides_given» (before sides)) (before «second_dice») (length (before one)) (length (before two)) (length (before three)) (length (before joined))) ≡ 0 → judged true (after joined) ≡ verdicts.Accepted) ⌝ }
+    ensures answer { λ r. ⌜ r ≡ outcomeOf (electionRefusal (given (parameters modulus ballots compared) (before ids) (before votes) (before numbers) (before permutations) (before keys)) (choiceOf «mask_given» mask) (before «first_dice») (choiceOf «sides_given» (before sides)) (before «second_dice») (length (before one)) (length (before two)) (length (before three)) (length (before joined))) (judged false (electionRecord (given (parameters modulus ballots compared) (before ids) (before votes) (before numbers) (before permutations) (before keys)) (choiceOf «mask_given» mask) (before «first_dice») (choiceOf «sides_given» (before sides)) (before «second_dice»))) ⌝ }
+    ensures one { λ _. ⌜ after one ≡ afterwards (electionRefusal (given (parameters modulus ballots compared) (before ids) (before votes) (before numbers) (before permutations) (before keys)) (choiceOf «mask_given» mask) (before «first_dice») (choiceOf «sides_given» (before sides)) (before «second_dice») (length (before one)) (length (before two)) (length (before three)) (length (before joined))) (before one) (firstPart (given (parameters modulus ballots compared) (before ids) (before votes) (before numbers) (before permutations) (before keys))) ⌝ }
+    ensures two { λ _. ⌜ after two ≡ afterwards (electionRefusal (given (parameters modulus ballots compared) (before ids) (before votes) (before numbers) (before permutations) (before keys)) (choiceOf «mask_given» mask) (before «first_dice») (choiceOf «sides_given» (before sides)) (before «second_dice») (length (before one)) (length (before two)) (length (before three)) (length (before joined))) (before two) (electionTwo (given (parameters modulus ballots compared) (before ids) (before votes) (before numbers) (before permutations) (before keys)) (choiceOf «mask_given» mask) (before «first_dice»)) ⌝ }
+    ensures three { λ _. ⌜ after three ≡ afterwards (electionRefusal (given (parameters modulus ballots compared) (before ids) (before votes) (before numbers) (before permutations) (before keys)) (choiceOf «mask_given» mask) (before «first_dice») (choiceOf «sides_given» (before sides)) (before «second_dice») (length (before one)) (length (before two)) (length (before three)) (length (before joined))) (before three) (electionThree (given (parameters modulus ballots compared) (before ids) (before votes) (before numbers) (before permutations) (before keys)) (choiceOf «mask_given» mask) (before «first_dice») (choiceOf «sides_given» (before sides)) (before «second_dice»)) ⌝ }
+    ensures joined { λ _. ⌜ after joined ≡ afterwards (electionRefusal (given (parameters modulus ballots compared) (before ids) (before votes) (before numbers) (before permutations) (before keys)) (choiceOf «mask_given» mask) (before «first_dice») (choiceOf «sides_given» (before sides)) (before «second_dice») (length (before one)) (length (before two)) (length (before three)) (length (before joined))) (before joined) (electionRecord (given (parameters modulus ballots compared) (before ids) (before votes) (before numbers) (before permutations) (before keys)) (choiceOf «mask_given» mask) (before «first_dice») (choiceOf «sides_given» (before sides)) (before «second_dice»)) ⌝ }
+    ensures accepted { λ r. ⌜ ((electionRefusal (given (parameters modulus ballots compared) (before ids) (before votes) (before numbers) (before permutations) (before keys)) (choiceOf «mask_given» mask) (before «first_dice») (choiceOf «sides_given» (before sides)) (before «second_dice») (length (before one)) (length (before two)) (length (before three)) (length (before joined))) ≡ 0 → r ≡ Outcome.Accepted) ⌝ }
+    ensures announced { λ _. ⌜ ((electionRefusal (given (parameters modulus ballots compared) (before ids) (before votes) (before numbers) (before permutations) (before keys)) (choiceOf «mask_given» mask) (before «first_dice») (choiceOf «sides_given» (before sides)) (before «second_dice») (length (before one)) (length (before two)) (length (before three)) (length (before joined))) ≡ 0 → announcedVotes (after joined) ≡ sort (before votes)) ⌝ }
+    ensures drawn { λ _. ⌜ («mask_given» ≡ false → «sides_given» ≡ false → (electionRefusal (given (parameters modulus ballots compared) (before ids) (before votes) (before numbers) (before permutations) (before keys)) (choiceOf «mask_given» mask) (before «first_dice») (choiceOf «sides_given» (before sides)) (before «second_dice») (length (before one)) (length (before two)) (length (before three)) (length (before joined))) ≡ 0 → judged true (after joined) ≡ verdicts.Accepted) ⌝ }
 {
     let k = refuse(
         mask_given,

@@ -8,6 +8,7 @@ ghost use Rattle.laws.specs.Lent.{before, after};
 ghost use Rattle.laws.specs.Tests.{differ, choose};
 ghost use Rattle.keccak.specs.Keccak.{keccakF};
 ghost use Rattle.sha3.specs.Sha3.{sha3-224, sha3-256};
+ghost use Rattle.protocol.specs.Terms.{parameters};
 ghost use Rattle.protocol.specs.Tablet as tablets;
 ghost use Rattle.protocol.specs.Tablet.{tabletCommand, tabletRefusal};
 ghost use Rattle.protocol.specs.Columns.{rowServer, thirdOffsets, secondHalves, rowRefusal, pairRefusal};
@@ -164,8 +165,8 @@ pub extern "C" fn paddockyear_part_one(
     keys: &[u8],
     out: &mut [u8],
 ) -> u32
-    ensures answer { λ r. ⌜ r ≡ partOneRefusal (given modulus ballots compared (before ids) (before votes) (before numbers) (before permutations) (before keys)) (length (before out)) ⌝ }
-    ensures output { λ _. ⌜ after out ≡ afterwards (partOneRefusal (given modulus ballots compared (before ids) (before votes) (before numbers) (before permutations) (before keys)) (length (before out))) (before out) (firstPart (given modulus ballots compared (before ids) (before votes) (before numbers) (before permutations) (before keys))) ⌝ }
+    ensures answer { λ r. ⌜ r ≡ partOneRefusal (given (parameters modulus ballots compared) (before ids) (before votes) (before numbers) (before permutations) (before keys)) (length (before out)) ⌝ }
+    ensures output { λ _. ⌜ after out ≡ afterwards (partOneRefusal (given (parameters modulus ballots compared) (before ids) (before votes) (before numbers) (before permutations) (before keys)) (length (before out))) (before out) (firstPart (given (parameters modulus ballots compared) (before ids) (before votes) (before numbers) (before permutations) (before keys))) ⌝ }
 {
     written_code(board::part_one(
         modulus,
@@ -195,8 +196,8 @@ pub extern "C" fn paddockyear_part_two(
     mask: u32,
     out: &mut [u8],
 ) -> u32
-    ensures answer { λ r. ⌜ r ≡ partTwoRefusal (given modulus ballots compared (before ids) (before votes) (before numbers) (before permutations) (before keys)) (before dice) mask (length (before out)) ⌝ }
-    ensures output { λ _. ⌜ after out ≡ afterwards (partTwoRefusal (given modulus ballots compared (before ids) (before votes) (before numbers) (before permutations) (before keys)) (before dice) mask (length (before out))) (before out) (secondPart (given modulus ballots compared (before ids) (before votes) (before numbers) (before permutations) (before keys)) (before dice) mask) ⌝ }
+    ensures answer { λ r. ⌜ r ≡ partTwoRefusal (given (parameters modulus ballots compared) (before ids) (before votes) (before numbers) (before permutations) (before keys)) (before dice) mask (length (before out)) ⌝ }
+    ensures output { λ _. ⌜ after out ≡ afterwards (partTwoRefusal (given (parameters modulus ballots compared) (before ids) (before votes) (before numbers) (before permutations) (before keys)) (before dice) mask (length (before out))) (before out) (secondPart (given (parameters modulus ballots compared) (before ids) (before votes) (before numbers) (before permutations) (before keys)) (before dice) mask) ⌝ }
 {
     written_code(comparison::part_two(
         modulus,
@@ -228,8 +229,8 @@ pub extern "C" fn paddockyear_part_two_drawn(
     one: &[u8],
     out: &mut [u8],
 ) -> u32
-    ensures answer { λ r. ⌜ r ≡ partTwoDrawnRefusal (given modulus ballots compared (before ids) (before votes) (before numbers) (before permutations) (before keys)) (before dice) (length (before one)) (length (before out)) ⌝ }
-    ensures output { λ _. ⌜ after out ≡ afterwards (partTwoDrawnRefusal (given modulus ballots compared (before ids) (before votes) (before numbers) (before permutations) (before keys)) (before dice) (length (before one)) (length (before out))) (before out) (secondPart (given modulus ballots compared (before ids) (before votes) (before numbers) (before permutations) (before keys)) (before dice) (maskFor (given modulus ballots compared (before ids) (before votes) (before numbers) (before permutations) (before keys)) (before dice) (before one))) ⌝ }
+    ensures answer { λ r. ⌜ r ≡ partTwoDrawnRefusal (given (parameters modulus ballots compared) (before ids) (before votes) (before numbers) (before permutations) (before keys)) (before dice) (length (before one)) (length (before out)) ⌝ }
+    ensures output { λ _. ⌜ after out ≡ afterwards (partTwoDrawnRefusal (given (parameters modulus ballots compared) (before ids) (before votes) (before numbers) (before permutations) (before keys)) (before dice) (length (before one)) (length (before out))) (before out) (secondPart (given (parameters modulus ballots compared) (before ids) (before votes) (before numbers) (before permutations) (before keys)) (before dice) (maskFor (given (parameters modulus ballots compared) (before ids) (before votes) (before numbers) (before permutations) (before keys)) (before dice) (before one))) ⌝ }
 {
     written_code(comparison::part_two_drawn(
         modulus,
@@ -262,8 +263,8 @@ pub extern "C" fn paddockyear_part_three(
     sides: &[u8],
     out: &mut [u8],
 ) -> u32
-    ensures answer { λ r. ⌜ r ≡ partThreeRefusal (given modulus ballots compared (before ids) (before votes) (before numbers) (before permutations) (before keys)) (before dice) mask (before sides) (length (before out)) ⌝ }
-    ensures output { λ _. ⌜ after out ≡ afterwards (partThreeRefusal (given modulus ballots compared (before ids) (before votes) (before numbers) (before permutations) (before keys)) (before dice) mask (before sides) (length (before out))) (before out) (thirdPart (given modulus ballots compared (before ids) (before votes) (before numbers) (before permutations) (before keys)) (before dice) mask (before sides)) ⌝ }
+    ensures answer { λ r. ⌜ r ≡ partThreeRefusal (given (parameters modulus ballots compared) (before ids) (before votes) (before numbers) (before permutations) (before keys)) (before dice) mask (before sides) (length (before out)) ⌝ }
+    ensures output { λ _. ⌜ after out ≡ afterwards (partThreeRefusal (given (parameters modulus ballots compared) (before ids) (before votes) (before numbers) (before permutations) (before keys)) (before dice) mask (before sides) (length (before out))) (before out) (thirdPart (given (parameters modulus ballots compared) (before ids) (before votes) (before numbers) (before permutations) (before keys)) (before dice) mask (before sides)) ⌝ }
 {
     written_code(disclosure::part_three(
         modulus,
@@ -298,8 +299,8 @@ pub extern "C" fn paddockyear_part_three_drawn(
     two: &[u8],
     out: &mut [u8],
 ) -> u32
-    ensures answer { λ r. ⌜ r ≡ partThreeDrawnRefusal (given modulus ballots compared (before ids) (before votes) (before numbers) (before permutations) (before keys)) (before dice) mask (length (before one)) (length (before two)) (length (before out)) ⌝ }
-    ensures output { λ _. ⌜ after out ≡ afterwards (partThreeDrawnRefusal (given modulus ballots compared (before ids) (before votes) (before numbers) (before permutations) (before keys)) (before dice) mask (length (before one)) (length (before two)) (length (before out))) (before out) (thirdPart (given modulus ballots compared (before ids) (before votes) (before numbers) (before permutations) (before keys)) (before dice) mask (sidesFor (given modulus ballots compared (before ids) (before votes) (before numbers) (before permutations) (before keys)) (before dice) (before one) (before two))) ⌝ }
+    ensures answer { λ r. ⌜ r ≡ partThreeDrawnRefusal (given (parameters modulus ballots compared) (before ids) (before votes) (before numbers) (before permutations) (before keys)) (before dice) mask (length (before one)) (length (before two)) (length (before out)) ⌝ }
+    ensures output { λ _. ⌜ after out ≡ afterwards (partThreeDrawnRefusal (given (parameters modulus ballots compared) (before ids) (before votes) (before numbers) (before permutations) (before keys)) (before dice) mask (length (before one)) (length (before two)) (length (before out))) (before out) (thirdPart (given (parameters modulus ballots compared) (before ids) (before votes) (before numbers) (before permutations) (before keys)) (before dice) mask (sidesFor (given (parameters modulus ballots compared) (before ids) (before votes) (before numbers) (before permutations) (before keys)) (before dice) (before one) (before two))) ⌝ }
 {
     written_code(disclosure::part_three_drawn(
         modulus,
@@ -374,11 +375,11 @@ pub extern "C" fn paddockyear_election(
     three: &mut [u8],
     joined: &mut [u8],
 ) -> u32
-    ensures answer { λ r. ⌜ r ≡ (electionRefusal (given modulus ballots compared (before ids) (before votes) (before numbers) (before permutations) (before keys)) (choiceOf (differ «mask_given» 0) mask) (before «first_dice») (choiceOf (differ «sides_given» 0) (before sides)) (before «second_dice») (length (before one)) (length (before two)) (length (before three)) (length (before joined))) ⌝ }
-    ensures one { λ _. ⌜ after one ≡ afterwards (electionRefusal (given modulus ballots compared (before ids) (before votes) (before numbers) (before permutations) (before keys)) (choiceOf (differ «mask_given» 0) mask) (before «first_dice») (choiceOf (differ «sides_given» 0) (before sides)) (before «second_dice») (length (before one)) (length (before two)) (length (before three)) (length (before joined))) (before one) (firstPart (given modulus ballots compared (before ids) (before votes) (before numbers) (before permutations) (before keys))) ⌝ }
-    ensures two { λ _. ⌜ after two ≡ afterwards (electionRefusal (given modulus ballots compared (before ids) (before votes) (before numbers) (before permutations) (before keys)) (choiceOf (differ «mask_given» 0) mask) (before «first_dice») (choiceOf (differ «sides_given» 0) (before sides)) (before «second_dice») (length (before one)) (length (before two)) (length (before three)) (length (before joined))) (before two) (electionTwo (given modulus ballots compared (before ids) (before votes) (before numbers) (before permutations) (before keys)) (choiceOf (differ «mask_given» 0) mask) (before «first_dice»)) ⌝ }
-    ensures three { λ _. ⌜ after three ≡ afterwards (electionRefusal (given modulus ballots compared (before ids) (before votes) (before numbers) (before permutations) (before keys)) (choiceOf (differ «mask_given» 0) mask) (before «first_dice») (choiceOf (differ «sides_given» 0) (before sides)) (before «second_dice») (length (before one)) (length (before two)) (length (before three)) (length (before joined))) (before three) (electionThree (given modulus ballots compared (before ids) (before votes) (before numbers) (before permutations) (before keys)) (choiceOf (differ «mask_given» 0) mask) (before «first_dice») (choiceOf (differ «sides_given» 0) (before sides)) (before «second_dice»)) ⌝ }
-    ensures joined { λ _. ⌜ after joined ≡ afterwards (electionRefusal (given modulus ballots compared (before ids) (before votes) (before numbers) (before permutations) (before keys)) (choiceOf (differ «mask_given» 0) mask) (before «first_dice») (choiceOf (differ «sides_given» 0) (before sides)) (before «second_dice») (length (before one)) (length (before two)) (length (before three)) (length (before joined))) (before joined) (electionRecord (given modulus ballots compared (before ids) (before votes) (before numbers) (before permutations) (before keys)) (choiceOf (differ «mask_given» 0) mask) (before «first_dice») (choiceOf (differ «sides_given» 0) (before sides)) (before «second_dice»)) ⌝ }
+    ensures answer { λ r. ⌜ r ≡ (electionRefusal (given (parameters modulus ballots compared) (before ids) (before votes) (before numbers) (before permutations) (before keys)) (choiceOf (differ «mask_given» 0) mask) (before «first_dice») (choiceOf (differ «sides_given» 0) (before sides)) (before «second_dice») (length (before one)) (length (before two)) (length (before three)) (length (before joined))) ⌝ }
+    ensures one { λ _. ⌜ after one ≡ afterwards (electionRefusal (given (parameters modulus ballots compared) (before ids) (before votes) (before numbers) (before permutations) (before keys)) (choiceOf (differ «mask_given» 0) mask) (before «first_dice») (choiceOf (differ «sides_given» 0) (before sides)) (before «second_dice») (length (before one)) (length (before two)) (length (before three)) (length (before joined))) (before one) (firstPart (given (parameters modulus ballots compared) (before ids) (before votes) (before numbers) (before permutations) (before keys))) ⌝ }
+    ensures two { λ _. ⌜ after two ≡ afterwards (electionRefusal (given (parameters modulus ballots compared) (before ids) (before votes) (before numbers) (before permutations) (before keys)) (choiceOf (differ «mask_given» 0) mask) (before «first_dice») (choiceOf (differ «sides_given» 0) (before sides)) (before «second_dice») (length (before one)) (length (before two)) (length (before three)) (length (before joined))) (before two) (electionTwo (given (parameters modulus ballots compared) (before ids) (before votes) (before numbers) (before permutations) (before keys)) (choiceOf (differ «mask_given» 0) mask) (before «first_dice»)) ⌝ }
+    ensures three { λ _. ⌜ after three ≡ afterwards (electionRefusal (given (parameters modulus ballots compared) (before ids) (before votes) (before numbers) (before permutations) (before keys)) (choiceOf (differ «mask_given» 0) mask) (before «first_dice») (choiceOf (differ «sides_given» 0) (before sides)) (before «second_dice») (length (before one)) (length (before two)) (length (before three)) (length (before joined))) (before three) (electionThree (given (parameters modulus ballots compared) (before ids) (before votes) (before numbers) (before permutations) (before keys)) (choiceOf (differ «mask_given» 0) mask) (before «first_dice») (choiceOf (differ «sides_given» 0) (before sides)) (before «second_dice»)) ⌝ }
+    ensures joined { λ _. ⌜ after joined ≡ afterwards (electionRefusal (given (parameters modulus ballots compared) (before ids) (before votes) (before numbers) (before permutations) (before keys)) (choiceOf (differ «mask_given» 0) mask) (before «first_dice») (choiceOf (differ «sides_given» 0) (before sides)) (before «second_dice») (length (before one)) (length (before two)) (length (before three)) (length (before joined))) (before joined) (electionRecord (given (parameters modulus ballots compared) (before ids) (before votes) (before numbers) (before permutations) (before keys)) (choiceOf (differ «mask_given» 0) mask) (before «first_dice») (choiceOf (differ «sides_given» 0) (before sides)) (before «second_dice»)) ⌝ }
 {
     outcome_code(election::hold(
         mask_given != 0,

@@ -14,7 +14,7 @@ use Rattle.protocol.specs.Inputs.{Slices, listPermutations, inputsOf, idsRise, 
 use Rattle.protocol.proofs.Unrefused.{permutation-iff}
 use Rattle.inputs.specs.Contents.{rising, permutationsIn}
 
-pub rising-is : (s : Slices) → length (s .ids) ≡ s .ballots → rising (s .ids) ≡ idsRise s
+pub rising-is : (s : Slices) → length (s .ids) ≡ s .parameters .ballots → rising (s .ids) ≡ idsRise s
 unfolding rising idsRise
 rising-is s long = rw long
 
@@ -33,35 +33,35 @@ same-permutation n p q same =
 
 module _ (s : Slices) where
   -- permutation c of list l
-  one : (l c : ℕ) → c < 3 → isPermutation (s .ballots) (item (piece (s .permutations) ((3 * l + c) * s .ballots) (s .ballots))) ≡ isPermutation (s .ballots) (inputsOf s .permutation l c)
+  one : (l c : ℕ) → c < 3 → isPermutation (s .parameters .ballots) (item (piece (s .permutations) ((3 * l + c) * s .parameters .ballots) (s .parameters .ballots))) ≡ isPermutation (s .parameters .ballots) (inputsOf s .permutation l c)
   unfolding inputsOf listPermutations
-  one l c h = same-permutation (s .ballots) _ _ same
+  one l c h = same-permutation (s .parameters .ballots) _ _ same
     where
-      same : (i : ℕ) → i < s .ballots → item (piece (s .permutations) ((3 * l + c) * s .ballots) (s .ballots)) i ≡ item (piece (s .permutations) (l * (3 * s .ballots)) (3 * s .ballots)) (c * s .ballots + i)
+      same : (i : ℕ) → i < s .parameters .ballots → item (piece (s .permutations) ((3 * l + c) * s .parameters .ballots) (s .parameters .ballots)) i ≡ item (piece (s .permutations) (l * (3 * s .parameters .ballots)) (3 * s .parameters .ballots)) (c * s .parameters .ballots + i)
       same i k =
-          let at : (3 * l + c) * s .ballots + i ≡ l * (3 * s .ballots) + (c * s .ballots + i) = omega arith in
-          get-piece (s .permutations) ((3 * l + c) * s .ballots) (s .ballots) i k ∙ ap (item (s .permutations)) at
-          ∙ sym (get-piece (s .permutations) (l * (3 * s .ballots)) (3 * s .ballots) (c * s .ballots + i) (omega (arith, mul-le-mul-right {m = c} {n = 2} (s .ballots) (omega arith))))
+          let at : (3 * l + c) * s .parameters .ballots + i ≡ l * (3 * s .parameters .ballots) + (c * s .parameters .ballots + i) = omega arith in
+          get-piece (s .permutations) ((3 * l + c) * s .parameters .ballots) (s .parameters .ballots) i k ∙ ap (item (s .permutations)) at
+          ∙ sym (get-piece (s .permutations) (l * (3 * s .parameters .ballots)) (3 * s .parameters .ballots) (c * s .parameters .ballots + i) (omega (arith, mul-le-mul-right {m = c} {n = 2} (s .parameters .ballots) (omega arith))))
 
-  pub permutations-in : permutationsIn (s .ballots) (2 * s .compared) (s .permutations) ≡ allPermutations s
+  pub permutations-in : permutationsIn (s .parameters .ballots) (2 * s .parameters .compared) (s .permutations) ≡ allPermutations s
   unfolding permutationsIn allPermutations
   permutations-in = by-iff _ _ there back
     where
       flat : ℕ → Bool
-      flat d = isPermutation (s .ballots) (item (piece (s .permutations) (d * s .ballots) (s .ballots)))
+      flat d = isPermutation (s .parameters .ballots) (item (piece (s .permutations) (d * s .parameters .ballots) (s .parameters .ballots)))
 
       three : ℕ → Bool
-      three l = every (λ c. isPermutation (s .ballots) (inputsOf s .permutation l c)) 3
+      three l = every (λ c. isPermutation (s .parameters .ballots) (inputsOf s .permutation l c)) 3
 
-      there : every flat (3 * (2 * s .compared)) ≡ true → every three (2 * s .compared) ≡ true
+      there : every flat (3 * (2 * s .parameters .compared)) ≡ true → every three (2 * s .parameters .compared) ≡ true
       there e =
-          every-iff three (2 * s .compared) .1
-          (λ l ll. every-iff (λ c. isPermutation (s .ballots) (inputsOf s .permutation l c)) 3 .1 (λ c lc. sym (one l c lc) ∙ every-iff flat (3 * (2 * s .compared)) .0 e (3 * l + c) (omega arith)))
+          every-iff three (2 * s .parameters .compared) .1
+          (λ l ll. every-iff (λ c. isPermutation (s .parameters .ballots) (inputsOf s .permutation l c)) 3 .1 (λ c lc. sym (one l c lc) ∙ every-iff flat (3 * (2 * s .parameters .compared)) .0 e (3 * l + c) (omega arith)))
 
-      back : every three (2 * s .compared) ≡ true → every flat (3 * (2 * s .compared)) ≡ true
+      back : every three (2 * s .parameters .compared) ≡ true → every flat (3 * (2 * s .parameters .compared)) ≡ true
       back e =
-          every-iff flat (3 * (2 * s .compared)) .1
+          every-iff flat (3 * (2 * s .parameters .compared)) .1
           (λ d ld.
           let split : 3 * (d / 3) + d % 3 ≡ d = omega arith in
           ap flat (sym split) ∙ one (d / 3) (d % 3) (omega arith)
-          ∙ every-iff (λ c. isPermutation (s .ballots) (inputsOf s .permutation (d / 3) c)) 3 .0 (every-iff three (2 * s .compared) .0 e (d / 3) (omega arith)) (d % 3) (omega arith))
+          ∙ every-iff (λ c. isPermutation (s .parameters .ballots) (inputsOf s .permutation (d / 3) c)) 3 .0 (every-iff three (2 * s .parameters .compared) .0 e (d / 3) (omega arith)) (d % 3) (omega arith))

@@ -28,7 +28,7 @@ unfoldable pub contentsRefusal : Slices → Bool → Bool → Bool → ℕ
 contentsRefusal s fair shape binary =
     rule 5 (idsRise s)
     (rule 6 fair
-    (rule 7 shape (rule 10 (allBelow (s .modulus) (s .votes) and allBelow (s .modulus) (s .numbers)) (rule 11 binary (rule 19 (allPermutations s) kept)))))
+    (rule 7 shape (rule 10 (allBelow (s .parameters .modulus) (s .votes) and allBelow (s .parameters .modulus) (s .numbers)) (rule 11 binary (rule 19 (allPermutations s) kept)))))
 
 pub record ContentsReady (ballots compared : ℕ) (ids votes permutations : List ℕ) : Type 0 where
   pub few : ballots ≤ mostBallots
@@ -39,6 +39,6 @@ pub record ContentsReady (ballots compared : ℕ) (ids votes permutations : List
 
 -- the refusal of document 01 in these two steps
 pub refusal-is : (s : Slices) (lengths fair shape binary : Bool)
-    → refusal s lengths fair shape binary ≡ rule 3 (inLimits (s .modulus) (s .ballots) (s .compared)) (rule 18 (dueLengths s and lengths) (contentsRefusal s fair shape binary))
+    → refusal s lengths fair shape binary ≡ rule 3 (inLimits (s .parameters .modulus) (s .parameters .ballots) (s .parameters .compared)) (rule 18 (dueLengths s and lengths) (contentsRefusal s fair shape binary))
 unfolding refusal contentsRefusal
 refusal-is s lengths fair shape binary = refl

@@ -4,7 +4,7 @@ ghost use mathlib.Core.Path.{_≡_};
 ghost use Prim.Native.Nat.{ℕ, _+_, _*_, _≤_, _<_};
 ghost use lib.ListN.{length};
 ghost use Rattle.laws.specs.Lent.{before};
-ghost use Rattle.protocol.specs.Terms.{item, mostBallots, allBelow, modulusInLimits, ballotsInLimits, inLimits};
+ghost use Rattle.protocol.specs.Terms.{parameters, item, mostBallots, allBelow, modulusInLimits, ballotsInLimits, inLimits};
 ghost use Rattle.protocol.specs.Columns.{isPermutation};
 ghost use Rattle.protocol.specs.Inputs.{given, dueLengths};
 ghost use Rattle.inputs.specs.Contents.{rising, binary, permutationsIn, contentsRefusal, ContentsReady};
@@ -28,7 +28,7 @@ pub fn ballots_in_limits(ballots: u32) -> bool
 
 // Whether M, n and m are in their limits.
 pub fn in_limits(modulus: u32, ballots: u32, compared: u32) -> bool
-    ensures { λ r. ⌜ r ≡ inLimits modulus ballots compared ⌝ }
+    ensures { λ r. ⌜ r ≡ inLimits (parameters modulus ballots compared) ⌝ }
 {
     if !modulus_in_limits(modulus) {
         return false;
@@ -133,7 +133,7 @@ pub fn due_lengths(
     keys: &[u8],
 ) -> bool
     requires { ⌜ (ballots ≤ mostBallots) × (compared ≤ 12) ⌝ }
-    ensures { λ r. ⌜ ((modulus : ℕ) → r ≡ dueLengths (given modulus ballots compared (before ids) (before votes) (before numbers) (before permutations) (before keys))) ⌝ }
+    ensures { λ r. ⌜ ((modulus : ℕ) → r ≡ dueLengths (given (parameters modulus ballots compared) (before ids) (before votes) (before numbers) (before permutations) (before keys))) ⌝ }
 {
     let each = compared * ballots;
     if ids.len() != ballots {
@@ -165,7 +165,7 @@ pub fn refuse_contents(
     binary: bool,
 ) -> u32
     requires { ⌜ ContentsReady ballots compared (now ids) (now votes) (now permutations) ⌝ }
-    ensures { λ r. ⌜ ((keys : List ℕ) → r ≡ contentsRefusal (given modulus ballots compared (before ids) (before votes) (before numbers) (before permutations) keys) fair shape binary) ⌝ }
+    ensures { λ r. ⌜ ((keys : List ℕ) → r ≡ contentsRefusal (given (parameters modulus ballots compared) (before ids) (before votes) (before numbers) (before permutations) keys) fair shape binary) ⌝ }
 {
     if !ids_rise(ids) {
         return 5;

@@ -6,7 +6,7 @@ use Prim.Native.Nat.{ℕ, zero, suc, _+_, _*_}
 use Rattle.laws.specs.Tests.{_and_, _implies_, every, never}
 use Rattle.laws.specs.Faults.{rule, rule-go, rule-stop}
 use Rattle.laws.specs.Chunks.{piece}
-use Rattle.protocol.specs.Terms.{Place}
+use Rattle.protocol.specs.declared.Place.{Place}
 use Rattle.protocol.specs.Rules.{gives}
 use Rattle.openings.specs.Opened.{openingAt}
 

@@ -145,7 +145,7 @@ apart-before h j lj i li e = let z : i ≡ j = h .apart i j (omega arith) lj e i
 
 module _ (drawn : Bool) (r : List ℕ) (s : Stands r) (are : drawn ≡ true → Drawn (parametersOf r) r) where
   -- a command that stands where it is due and lies inside of the record
-  faultless-at : (d : Due) → item r (placeOf (parametersOf r) r d) ≡ code d → placeOf (parametersOf r) r d + width d ≤ length r
+  faultless-at : (d : Due) → item r (placeOf (parametersOf r) r d) ≡ code (parametersOf r) d → placeOf (parametersOf r) r d + width (parametersOf r) d ≤ length r
       → rulesOf (parametersOf r) r drawn d ≡ 0 → fault (parametersOf r) r drawn d ≡ 0
   faultless-at d byte whole ok = fault-iff drawn (parametersOf r) r d .1 (byte, (whole, ok))
 

@@ -36,7 +36,7 @@ pub record Taken (s : Slices) (dice₁ : List ℕ) (mask : ℕ) (dice₂ sides :
   pub first-fair : fairDice dice₁ ≡ true
   pub second-long : length dice₂ ≡ 30
   pub second-fair : fairDice dice₂ ≡ true
-  pub shape : rightShape (s .compared) mask ≡ true
+  pub shape : rightShape (s .parameters .compared) mask ≡ true
   pub binary : binarySides s sides ≡ true
 
 -- the record of these inputs
@@ -75,13 +75,13 @@ module _ (s : Slices) (g : Good (inputsOf s)) (dice₁ : List ℕ) (mask : ℕ) 
   sorted-whole l n e = sym (tabulate-of l (item l) n e (λ j h. refl))
 
   -- the votes announced are the votes cast, smallest first
-  written-announces : length (s .votes) ≡ s .ballots → announcedVotes (written s dice₁ mask dice₂ sides) ≡ sort (s .votes)
+  written-announces : length (s .votes) ≡ s .parameters .ballots → announcedVotes (written s dice₁ mask dice₂ sides) ≡ sort (s .votes)
   unfolding disclosure board postedBoard postedDisclosure announced inputsOf
   written-announces long =
-      let cast : tabulate (item (s .votes)) (s .ballots) ≡ s .votes = sorted-whole (s .votes) (s .ballots) long in
+      let cast : tabulate (item (s .votes)) (s .parameters .ballots) ≡ s .votes = sorted-whole (s .votes) (s .parameters .ballots) long in
       ap announcedVotes is-encoding ∙ announces board comparison disclosure fits
-      ∙ ap (λ (l : List ℕ). tabulate (item (sort l)) (s .ballots)) cast
-      ∙ sorted-whole (sort (s .votes)) (s .ballots) (length-sort (s .votes) ∙ long)
+      ∙ ap (λ (l : List ℕ). tabulate (item (sort l)) (s .parameters .ballots)) cast
+      ∙ sorted-whole (sort (s .votes)) (s .parameters .ballots) (length-sort (s .votes) ∙ long)
 
   -- mask and sides drawn from these dice and the parts before
   are-drawn : mask ≡ maskFor s dice₁ (firstPart s) → sides ≡ sidesFor s dice₂ (firstPart s) (secondPart s dice₁ mask)
@@ -89,10 +89,10 @@ module _ (s : Slices) (g : Good (inputsOf s)) (dice₁ : List ℕ) (mask : ℕ) 
   unfolding board comparison disclosure postedBoard postedComparison postedDisclosure firstPart secondPart maskFor sidesFor inputsOf
   are-drawn em es = record {
     mask = read-mask board comparison disclosure fits ∙ em
-        ∙ ap₂ (λ (d l : List ℕ). drawnMask (s .compared) (challenge d l)) (sym (read-first-dice board comparison disclosure fits)) (sym (before-first-dice board comparison disclosure fits));
+        ∙ ap₂ (λ (d l : List ℕ). drawnMask (s .parameters .compared) (challenge d l)) (sym (read-first-dice board comparison disclosure fits)) (sym (before-first-dice board comparison disclosure fits));
     sides = λ j lj.
         read-side board comparison disclosure fits j lj ∙ ap (λ (l : List ℕ). item l j) es
-        ∙ item-drawn (s .ballots) (challenge dice₂ (firstPart s ++ secondPart s dice₁ mask)) j lj
+        ∙ item-drawn (s .parameters .ballots) (challenge dice₂ (firstPart s ++ secondPart s dice₁ mask)) j lj
         ∙ ap₂ (λ (d l : List ℕ). drawnSide (challenge d l) j) (sym (read-second-dice board comparison disclosure fits)) (sym (before-second-dice board comparison disclosure fits));
   }
 
@@ -110,7 +110,7 @@ pub record Unrefusing (s : Slices) (byMask : Choice ℕ) (dice₁ : List ℕ) (b
 
 module _ (s : Slices) where
   second-taken : (byMask : Choice ℕ) (dice₁ : List ℕ) (oneLong outLong : ℕ) → secondRefusal s byMask dice₁ oneLong outLong ≡ 0
-      → (length dice₁ ≡ 30) × ((fairDice dice₁ ≡ true) × (rightShape (s .compared) (electionMask s byMask dice₁) ≡ true))
+      → (length dice₁ ≡ 30) × ((fairDice dice₁ ≡ true) × (rightShape (s .parameters .compared) (electionMask s byMask dice₁) ≡ true))
   unfolding secondRefusal partTwoRefusal partTwoDrawnRefusal electionMask maskBy maskFor
   second-taken (chosen mask) dice₁ oneLong outLong h =
       let u = unrefused s _ _ _ _ h in
@@ -119,7 +119,7 @@ module _ (s : Slices) where
   second-taken drawn dice₁ oneLong outLong h =
       let u = unrefused s _ _ _ _ h in
       let long = simp rules at (u .lengths-due) in
-      (long .0, (u .fair-dice, drawn-mask (s .compared) (challenge dice₁ (firstPart s))))
+      (long .0, (u .fair-dice, drawn-mask (s .parameters .compared) (challenge dice₁ (firstPart s))))
 
   third-taken : (bySides : Choice (List ℕ)) (dice₂ : List ℕ) (mask oneLong twoLong outLong : ℕ) (one two : List ℕ)
       → thirdRefusal s bySides dice₂ mask oneLong twoLong outLong ≡ 0
@@ -142,7 +142,7 @@ module _ (s : Slices) where
         let b = third-taken bySides dice₂ _ _ _ _ (firstPart s) (electionTwo s byMask dice₁) (h .three .3) in
         record { first-long = a .0; first-fair = a .1 .0; second-long = b .0; second-fair = b .1 .0; shape = a .1 .1; binary = b .1 .1 }
 
-    votes-long : length (s .votes) ≡ s .ballots
+    votes-long : length (s .votes) ≡ s .parameters .ballots
     unfolding partOneRefusal
     votes-long = unrefused s _ _ _ _ (h .one .1) .votes-long
 

@@ -56,5 +56,5 @@ pub item-drawn : (n : ℕ) (q : List ℕ) (j : ℕ) → j < n → item (drawnSid
 unfolding drawnSides
 item-drawn n q j l = get-tabulate (drawnSide q) n j l
 
-pub drawn-sides : (s : Slices) (q : List ℕ) → binarySides s (drawnSides (s .ballots) q) ≡ true
-drawn-sides s q = binary-iff s (drawnSides (s .ballots) q) .1 (λ j l. rw (item-drawn (s .ballots) q j l) (drawn-side q j))
+pub drawn-sides : (s : Slices) (q : List ℕ) → binarySides s (drawnSides (s .parameters .ballots) q) ≡ true
+drawn-sides s q = binary-iff s (drawnSides (s .parameters .ballots) q) .1 (λ j l. rw (item-drawn (s .parameters .ballots) q j l) (drawn-side q j))

@@ -14,7 +14,10 @@ use Rattle.laws.specs.Permutations.{times-perm}
 use Rattle.laws.specs.Tables.{tabulate, length-tabulate, get-tabulate}
 use Rattle.laws.specs.Sorting.{count-sort, count-tabulate, times-list, length-sort, sort-sorted, sorted-rises, sort-below}
 use Rattle.sha3.proofs.Digest.{sha3-256-length}
-use Rattle.protocol.specs.Terms.{item, opening, opened, Place, inBallot, inEntry, commitment}
+use Rattle.protocol.specs.declared.Parameters.{Parameters}
+use Rattle.protocol.specs.declared.Place.{Place}
+use Rattle.protocol.specs.declared.Place.the-variants.{InBallot, InEntry}
+use Rattle.protocol.specs.Terms.{item, opening, opened, commitment}
 use Rattle.protocol.specs.Layout.{lists}
 use Rattle.protocol.specs.Stands.{Valid}
 use Rattle.protocol.specs.Inputs.{Inputs}
@@ -35,9 +38,9 @@ pub record Chosen (s : Inputs) (dice₁ dice₂ : List ℕ) (mask : ℕ) (side :
 
 -- ---- openings
 
-pub length-commitment : (place : Place) (o : List ℕ) → length (commitment place o) ≡ 32
+pub length-commitment : (p : Parameters) (place : Place) (o : List ℕ) → length (commitment p place o) ≡ 32
 unfolding commitment
-length-commitment place o = sha3-256-length o
+length-commitment p place o = sha3-256-length o
 
 pub length-opening : (key : List ℕ) (x : ℕ) → length key ≡ 32 → length (opening key x) ≡ 36
 unfolding opening
@@ -146,8 +149,8 @@ module _ (s : Inputs) (g : Good s) where
       ballots = omega (arith, g .ballots-high);
       compared = omega (arith, g .compared-high);
       ids = g .ids-fit;
-      ballot-commitments = λ j q lj lq. length-commitment (inBallot (s .id j) q) (ballotOpening s j q);
-      entry-commitments = λ l i q ll li lq. length-commitment (inEntry l i q) (entryOpening s l i q);
+      ballot-commitments = λ j q lj lq. length-commitment (s .parameters) (InBallot (s .id j) q) (ballotOpening s j q);
+      entry-commitments = λ l i q ll li lq. length-commitment (s .parameters) (InEntry l i q) (entryOpening s l i q);
       first-dice = h .first-long;
       mask = omega (arith, h .mask-below, pow-mono {i = lists (s .parameters)} {j = 24} (omega (arith, g .compared-high)));
       mask-ones = h .mask-ones;

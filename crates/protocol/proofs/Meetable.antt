@@ -14,7 +14,7 @@ use Rattle.laws.specs.Bytes.{Below}
 use Rattle.laws.specs.Tests.{equal, differ, below, atMost, _and_, _or_, every}
 use Rattle.laws.specs.Faults.{rule}
 use Rattle.protocol.specs.declared.Verdict.the-variants.{Accepted}
-use Rattle.protocol.specs.Terms.{inLimits, modulusInLimits, ballotsInLimits, listsInLimits, allBelow}
+use Rattle.protocol.specs.Terms.{parameters, inLimits, modulusInLimits, ballotsInLimits, listsInLimits, allBelow}
 use Rattle.protocol.specs.Columns.{isPermutation}
 use Rattle.protocol.specs.Record.{Board, Comparison, Disclosure, encoding}
 use Rattle.protocol.specs.Rules.{fairDie, fairDice}
@@ -90,34 +90,34 @@ module _ (s : Slices) (outLong : ℕ) (ids : Below 4294967296 (s .ids)) (h : par
   good = good-inputs s (unrefused s _ _ _ _ h) ids
 
   same-sides : ℕ → List ℕ
-  same-sides b = replicate (s .ballots) b
+  same-sides b = replicate (s .parameters .ballots) b
 
-  taken : (mask b : ℕ) → Shaped (s .compared) mask → b ≤ 1 → Taken s ones30 mask ones30 (same-sides b)
+  taken : (mask b : ℕ) → Shaped (s .parameters .compared) mask → b ≤ 1 → Taken s ones30 mask ones30 (same-sides b)
   unfolding ones30 same-sides fairDice fairDie every atMost _and_
   taken mask b m l = record {
     first-long = refl;
     first-fair = refl;
     second-long = refl;
     second-fair = refl;
-    shape = shape-iff (s .compared) mask .1 (m .mask-ones, m .mask-below);
-    binary = binary-iff s (replicate (s .ballots) b) .1 (λ j lj. rw (getD-replicate (s .ballots) j b 0 lj) l);
+    shape = shape-iff (s .parameters .compared) mask .1 (m .mask-ones, m .mask-below);
+    binary = binary-iff s (replicate (s .parameters .ballots) b) .1 (λ j lj. rw (getD-replicate (s .parameters .ballots) j b 0 lj) l);
   }
 
-  low : (b : ℕ) → b ≤ 1 → Taken s ones30 (lowMask (s .compared)) ones30 (same-sides b)
-  low b l = taken (lowMask (s .compared)) b (low-shaped (s .compared)) l
+  low : (b : ℕ) → b ≤ 1 → Taken s ones30 (lowMask (s .parameters .compared)) ones30 (same-sides b)
+  low b l = taken (lowMask (s .parameters .compared)) b (low-shaped (s .parameters .compared)) l
 
-  high : (b : ℕ) → b ≤ 1 → Taken s ones30 (highMask (s .compared)) ones30 (same-sides b)
-  high b l = taken (highMask (s .compared)) b (high-shaped (s .compared)) l
+  high : (b : ℕ) → b ≤ 1 → Taken s ones30 (highMask (s .parameters .compared)) ones30 (same-sides b)
+  high b l = taken (highMask (s .parameters .compared)) b (high-shaped (s .parameters .compared)) l
 
   -- the record with a mask, on one side throughout
   abbrev pub sample : ℕ → ℕ → List ℕ
-  sample mask b = written s (replicate 30 49) mask (replicate 30 49) (replicate (s .ballots) b)
+  sample mask b = written s (replicate 30 49) mask (replicate 30 49) (replicate (s .parameters .ballots) b)
 
-  pub triple : Triple (sample (lowMask (s .compared)) 0) (sample (lowMask (s .compared)) 1) (sample (highMask (s .compared)) 0)
+  pub triple : Triple (sample (lowMask (s .parameters .compared)) 0) (sample (lowMask (s .parameters .compared)) 1) (sample (highMask (s .parameters .compared)) 0)
   unfolding ones30 same-sides board comparison disclosure postedBoard postedComparison postedDisclosure partOneRefusal inputsOf
   triple =
-      let M = lowMask (s .compared) in
-      let N = highMask (s .compared) in
+      let M = lowMask (s .parameters .compared) in
+      let N = highMask (s .parameters .compared) in
       let t₁ = low 0 (omega arith) in
       let t₂ = low 1 (omega arith) in
       let t₃ = high 0 (omega arith) in
@@ -131,8 +131,8 @@ module _ (s : Slices) (outLong : ℕ) (ids : Below 4294967296 (s .ids)) (h : par
       (met _ _ _ _ _ _
       (fits s good ones30 M ones30 (same-sides 0) t₁) (fits s good ones30 M ones30 (same-sides 1) t₂) (fits s good ones30 N ones30 (same-sides 0) t₃)
       (rw e₁ at a₁) (rw e₂ at a₂) (rw e₃ at a₃)
-      (λ j lj e. opposite (sym (getD-replicate (s .ballots) j 0 0 lj) ∙ e ∙ getD-replicate (s .ballots) j 1 0 lj))
-      (masks-differ (s .compared) (unrefused s _ _ _ _ h .compared-low)))
+      (λ j lj e. opposite (sym (getD-replicate (s .parameters .ballots) j 0 0 lj) ∙ e ∙ getD-replicate (s .parameters .ballots) j 1 0 lj))
+      (masks-differ (s .parameters .compared) (unrefused s _ _ _ _ h .compared-low)))
     where
       opposite : _≡_ {A = ℕ} 0 1 → ⊥
       opposite e = omega arith
@@ -141,9 +141,7 @@ module _ (s : Slices) (outLong : ℕ) (ids : Below 4294967296 (s .ids)) (h : par
 pub tiny : Slices
 tiny =
     record {
-      modulus = 2;
-      ballots = 1;
-      compared = 1;
+      parameters = parameters 2 1 1;
       ids = 7 ∷ [];
       votes = 1 ∷ [];
       numbers = replicate 23 1;

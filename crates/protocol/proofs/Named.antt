@@ -133,7 +133,7 @@ module _ (drawn : Bool) (p : Parameters) (r : List ℕ) where
   fault-names : (d : Due) → Names (Broken drawn p r d) (fault p r drawn d)
   unfolding fault
   fault-names d =
-      rule-names 1 _ _ (λ e. stops d (let w : 0 < width d = wide d in omega (arith, below-fails (placeOf p r d) (length r) .0 e)))
+      rule-names 1 _ _ (λ e. stops d (let w : 0 < width p d = wide p d in omega (arith, below-fails (placeOf p r d) (length r) .0 e)))
       (rule-names 2 _ _ (λ e. not-due d (unequal-iff _ _ .0 e)) (rule-names 1 _ _ (λ e. stops d (atMost-fails _ _ .0 e)) (rules-names d)))
 
 -- ---- a command, and a whole record

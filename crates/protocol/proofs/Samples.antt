@@ -80,7 +80,7 @@ own =
     ∷ record { computed = drawFrom (λ i. i) 0 4 2 ∷ drawFrom (λ i. 3) 0 4 2 ∷ []; expected = 5 ∷ 10 ∷ [] }
     -- limits: n = 1,024 stands, 1,025 does not; M = 1 does not; m = 12 stands, 13 does not
     ∷ record {
-      computed = oneIf (inLimits 2 1024 12) ∷ oneIf (inLimits 2 1025 12) ∷ oneIf (inLimits 1 1 1) ∷ oneIf (inLimits 2 1 13) ∷ oneIf (inLimits 2 0 1) ∷ oneIf (inLimits 2 1 0) ∷ [];
+      computed = oneIf (inLimits (sized 2 1024 12)) ∷ oneIf (inLimits (sized 2 1025 12)) ∷ oneIf (inLimits (sized 1 1 1)) ∷ oneIf (inLimits (sized 2 1 13)) ∷ oneIf (inLimits (sized 2 0 1)) ∷ oneIf (inLimits (sized 2 1 0)) ∷ [];
       expected = 1 ∷ 0 ∷ 0 ∷ 0 ∷ 0 ∷ 0 ∷ [];
     }
     -- a key, then a number, its most significant byte first

@@ -7,7 +7,8 @@ use lib.ListN.{take}
 use Rattle.laws.specs.Masks.{bit}
 use Rattle.laws.specs.Sums.{times}
 use Rattle.protocol.specs.declared.Parameters.{Parameters}
-use Rattle.protocol.specs.Terms.{Place, inBallot, inEntry}
+use Rattle.protocol.specs.declared.Place.{Place}
+use Rattle.protocol.specs.declared.Place.the-variants.{InBallot, InEntry}
 use Rattle.protocol.specs.Layout.{lists, atFirstDice, atSecondDice}
 use Rattle.protocol.specs.Record.{Board, Comparison, Disclosure, parametersOf, idOf, ballotCommitmentOf, entryCommitmentOf, firstDiceOf, maskOf, positionOf, shiftOf, secondDiceOf, sideOf, ballotOpeningOf, listOpeningOf, voteOf, fullOpeningOf}
 use Rattle.protocol.specs.Stands.{Valid, Stands}
@@ -58,20 +59,20 @@ over-comparison p r s d alike v =
 
 module _ (p : Parameters) (r : List ℕ) (e : parametersOf r ≡ p) where
   half-shown : (l j c : ℕ) → l < lists p → bit (maskOf p r) l ≡ 1 → j < p .ballots → c < 3
-      → Shown r (inEntry l (positionOf p r l j) (2 * c + sideOf p r j)) (listOpeningOf p r l j c)
+      → Shown r (InEntry l (positionOf p r l j) (2 * c + sideOf p r j)) (listOpeningOf p r l j c)
   half-shown l j c =
       subst
       (λ (x : Parameters). l < lists x → bit (maskOf x r) l ≡ 1 → j < x .ballots → c < 3
-      → Shown r (inEntry l (positionOf x r l j) (2 * c + sideOf x r j)) (listOpeningOf x r l j c))
+      → Shown r (InEntry l (positionOf x r l j) (2 * c + sideOf x r j)) (listOpeningOf x r l j c))
       e (in-list-half l j c)
 
-  full-shown : (l i q : ℕ) → l < lists p → bit (maskOf p r) l ≡ 0 → i < p .ballots → q < 6 → Shown r (inEntry l i q) (fullOpeningOf p r l i q)
+  full-shown : (l i q : ℕ) → l < lists p → bit (maskOf p r) l ≡ 0 → i < p .ballots → q < 6 → Shown r (InEntry l i q) (fullOpeningOf p r l i q)
   full-shown l i q =
-      subst (λ (x : Parameters). l < lists x → bit (maskOf x r) l ≡ 0 → i < x .ballots → q < 6 → Shown r (inEntry l i q) (fullOpeningOf x r l i q)) e (in-full-opening l i q)
+      subst (λ (x : Parameters). l < lists x → bit (maskOf x r) l ≡ 0 → i < x .ballots → q < 6 → Shown r (InEntry l i q) (fullOpeningOf x r l i q)) e (in-full-opening l i q)
 
-  entry-posted : (l i q : ℕ) → l < lists p → i < p .ballots → q < 6 → Posted r (inEntry l i q) (entryCommitmentOf p r l i q)
+  entry-posted : (l i q : ℕ) → l < lists p → i < p .ballots → q < 6 → Posted r (InEntry l i q) (entryCommitmentOf p r l i q)
   entry-posted l i q =
-      subst (λ (x : Parameters). l < lists x → i < x .ballots → q < 6 → Posted r (inEntry l i q) (entryCommitmentOf x r l i q)) e (by-entry l i q)
+      subst (λ (x : Parameters). l < lists x → i < x .ballots → q < 6 → Posted r (InEntry l i q) (entryCommitmentOf x r l i q)) e (by-entry l i q)
 
 -- two openings that differ, shown by a record r of the pair and by the third
 clash-twice : (p : Parameters) (r₁ r₂ r₃ r : List ℕ) → parametersOf r₁ ≡ p → parametersOf r ≡ p → parametersOf r₃ ≡ p
@@ -80,15 +81,15 @@ clash-twice : (p : Parameters) (r₁ r₂ r₃ r : List ℕ) → parametersOf r�
     → ((place : Place) (o : List ℕ) → Shown r place o → Shown r₁ place o ⊎ (Shown r₂ place o ⊎ Shown r₃ place o))
     → Clash (boardAt p r₁) (comparisonAt p r₁) (disclosureAt p r) (comparisonAt p r₃) (disclosureAt p r₃) → OpenedTwice r₁ r₂ r₃
 clash-twice p r₁ r₂ r₃ r e₁ e e₃ alike v v₃ shown t = record {
-  place = inEntry l i q;
+  place = InEntry l i q;
   posted = entryCommitmentOf p r₁ l i q;
   one = listOpeningOf p r l j c;
   other = fullOpeningOf p r₃ l i q;
   is-posted = entry-posted p r₁ e₁ l i q (t .list-in) li lq;
   differ = t .differ;
-  one-gives = v .list-opens l j c (t .list-in) (t .set) (t .ballot-in) (t .slot-in);
-  other-gives = v₃ .full-opens l i q (t .list-in) (t .clear) li lq;
-  one-shown = shown (inEntry l i q) (listOpeningOf p r l j c) half;
+  one-gives = rw e₁ (v .list-opens l j c (t .list-in) (t .set) (t .ballot-in) (t .slot-in));
+  other-gives = rw e₁ (v₃ .full-opens l i q (t .list-in) (t .clear) li lq);
+  one-shown = shown (InEntry l i q) (listOpeningOf p r l j c) half;
   other-shown = inr (inr (full-shown p r₃ e₃ l i q (t .list-in) (t .clear) li lq));
 }
   where
@@ -113,7 +114,7 @@ clash-twice p r₁ r₂ r₃ r e₁ e e₃ alike v v₃ shown t = record {
     lq : q < 6
     lq = slot-in c (sideOf p r j) (t .slot-in) (v .sides j (t .ballot-in))
 
-    half : Shown r (inEntry l i q) (listOpeningOf p r l j c)
+    half : Shown r (InEntry l i q) (listOpeningOf p r l j c)
     half =
         rw (← position-alike p r r₁ alike l j (rank-below v l (t .list-in) (t .set)) (t .ballot-in))
         (half-shown p r e l j c (t .list-in) (rw (mask-alike p r r₁ alike) (t .set)) (t .ballot-in) (t .slot-in))
@@ -130,7 +131,7 @@ commits p r₁ r₂ e₁ e₂ v w j lj ne = record {
   shown₂ = λ c lc. rw e₂ (both-other (disclosureAt p r₁) (disclosureAt p r₂) j c (w .sides j lj) ne);
   gives = λ q lq.
       rw e₁
-      (both-give (disclosureAt p r₁) (disclosureAt p r₂) j (inBallot (idOf p r₁ j)) (ballotCommitmentOf p r₁ j) (v .sides j lj) (w .sides j lj) ne
+      (both-give (disclosureAt p r₁) (disclosureAt p r₂) j p (InBallot (idOf p r₁ j)) (ballotCommitmentOf p r₁ j) (v .sides j lj) (w .sides j lj) ne
       (λ c. v .ballot-opens j c lj) (λ c. w .ballot-opens j c lj) q lq);
   sum = rw e₁ refl;
 }

@@ -11,7 +11,8 @@ use Rattle.laws.specs.Masks.{bit}
 use Rattle.laws.specs.Sums.{times, times-same}
 use Rattle.laws.specs.Tables.{tabulate, same-tabulate}
 use Rattle.laws.specs.Permutations.{Perm}
-use Rattle.protocol.specs.Terms.{item, opened, inBallot, inEntry, commitment}
+use Rattle.protocol.specs.declared.Place.the-variants.{InBallot, InEntry}
+use Rattle.protocol.specs.Terms.{item, opened, commitment}
 use Rattle.protocol.specs.Tablet.{ballotCommand}
 use Rattle.protocol.specs.Layout.{lists, atEntry, atFirstDice, atSecondDice, atBallotHalf, atVote}
 use Rattle.protocol.specs.Record.{Board, Comparison, Disclosure, boardOf, comparisonOf, disclosureOf, firstCommand, entryCommand, firstDiceCommand, linkCommand, secondDiceCommand, ballotHalfCommand, listHalfCommand, voteCommand, fullCommand, partOne, partTwo, partThree, encoding, parametersOf, idOf, ballotCommitmentOf, entryCommitmentOf, linkPlace, positionOf, sideOf, ballotOpeningOf, listHalfPlace, listOpeningOf, voteOf, fullPlace, fullOpeningOf}
@@ -117,14 +118,14 @@ module _ (b : Board) (k : Comparison) (d : Disclosure) (f : Fits b k d) where
         }
 
     ballot-opens-read : (j c : ℕ) → j < b .parameters .ballots → c < 3
-        → commitment (inBallot (idOf (b .parameters) (encoding b k d) j) (2 * c + sideOf (b .parameters) (encoding b k d) j)) (ballotOpeningOf (b .parameters) (encoding b k d) j c)
+        → commitment (b .parameters) (InBallot (idOf (b .parameters) (encoding b k d) j) (2 * c + sideOf (b .parameters) (encoding b k d) j)) (ballotOpeningOf (b .parameters) (encoding b k d) j c)
         ≡ ballotCommitmentOf (b .parameters) (encoding b k d) j (2 * c + sideOf (b .parameters) (encoding b k d) j)
     ballot-opens-read j c lj lc =
         rw (read-id b k d f j lj, read-side b k d f j lj, read-ballot-opening b k d f j c lj lc, read-ballot-commitment b k d f j (2 * c + d .side j) lj (omega (arith, v .sides j lj)))
         (v .ballot-opens j c lj lc)
 
     list-opens-read : (l j c : ℕ) → l < lists (b .parameters) → bit (k .mask) l ≡ 1 → j < b .parameters .ballots → c < 3
-        → commitment (inEntry l (positionOf (b .parameters) (encoding b k d) l j) (2 * c + sideOf (b .parameters) (encoding b k d) j)) (listOpeningOf (b .parameters) (encoding b k d) l j c)
+        → commitment (b .parameters) (InEntry l (positionOf (b .parameters) (encoding b k d) l j) (2 * c + sideOf (b .parameters) (encoding b k d) j)) (listOpeningOf (b .parameters) (encoding b k d) l j c)
         ≡ entryCommitmentOf (b .parameters) (encoding b k d) l (positionOf (b .parameters) (encoding b k d) l j) (2 * c + sideOf (b .parameters) (encoding b k d) j)
     list-opens-read l j c ll e lj lc =
         rw (

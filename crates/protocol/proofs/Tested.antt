@@ -16,25 +16,26 @@ use Rattle.laws.specs.Sums.{times}
 use Rattle.protocol.specs.declared.Parameters.{Parameters}
 use Rattle.protocol.specs.declared.Due.{Due}
 use Rattle.protocol.specs.declared.Due.the-variants.{First, Ballot, Entry, FirstDice, Link, SecondDice, BallotHalf, ListHalf, Vote, FullOpening, End}
-use Rattle.protocol.specs.Terms.{item, mostBallots, modulusInLimits, ballotsInLimits, listsInLimits, inLimits, opened, inBallot, inEntry, commitment}
+use Rattle.protocol.specs.declared.Place.the-variants.{InBallot, InEntry}
+use Rattle.protocol.specs.Terms.{item, mostBallots, modulusInLimits, ballotsInLimits, listsInLimits, inLimits, opened, commitment}
 use Rattle.protocol.specs.Layout.{code, width, atEntry, atFirstDice, atSecondDice, atBallotHalf, atVote}
 use Rattle.protocol.specs.Record.{parametersOf, idOf, ballotCommitmentOf, entryCommitmentOf, firstDiceOf, maskOf, linkPlace, positionOf, shiftOf, secondDiceOf, sideOf, ballotOpeningOf, listHalfPlace, listOpeningOf, voteOf, fullPlace, fullOpeningOf}
 use Rattle.protocol.specs.Drawing.{challenge, drawnMask, drawnSide}
 use Rattle.protocol.proofs.Agreeing.{sum-of-three, sum-of-six, agrees-iff}
 use Rattle.protocol.specs.Rules.{fairDie, fairDice, rightShape, numbersBelow, gives, firstRules, ballotRules, entryRules, firstDiceRules, linkRules, secondDiceRules, ballotHalfRules, listHalfRules, voteRules, fullRules, rules as rulesOf, placeOf, fault}
 
-pub wide : (d : Due) → 0 < width d
-wide First = omega arith
-wide (Ballot j) = omega arith
-wide (Entry l i) = omega arith
-wide FirstDice = omega arith
-wide (Link l j) = omega arith
-wide SecondDice = omega arith
-wide (BallotHalf j) = omega arith
-wide (ListHalf l j) = omega arith
-wide (Vote i) = omega arith
-wide (FullOpening l i) = omega arith
-wide End = omega arith
+pub wide : (p : Parameters) (d : Due) → 0 < width p d
+wide p First = omega arith
+wide p (Ballot j) = omega arith
+wide p (Entry l i) = omega arith
+wide p FirstDice = omega arith
+wide p (Link l j) = omega arith
+wide p SecondDice = omega arith
+wide p (BallotHalf j) = omega arith
+wide p (ListHalf l j) = omega arith
+wide p (Vote i) = omega arith
+wide p (FullOpening l i) = omega arith
+wide p End = omega arith
 
 -- the last rule of a command
 last-rule : (k : ℕ) (t : Bool) → ltb 0 k ≡ true → (rule k t kept ≡ 0) ↔ (t ≡ true)
@@ -49,11 +50,11 @@ ruleset tests = (last-rule, unequal-iff, rules)
 module _ (drawn : Bool) (p : Parameters) (r : List ℕ) where
   -- the command stands whole where it is due, and keeps its rules
   pub fault-iff : (d : Due) → (fault p r drawn d ≡ 0)
-      ↔ ((item r (placeOf p r d) ≡ code d) × ((placeOf p r d + width d ≤ length r) × (rulesOf p r drawn d ≡ 0)))
+      ↔ ((item r (placeOf p r d) ≡ code p d) × ((placeOf p r d + width p d ≤ length r) × (rulesOf p r drawn d ≡ 0)))
   unfolding fault
   fault-iff d = (
     λ e. let h = simp rules at e in (h .1 .0, (h .1 .1 .0, h .1 .1 .1)),
-    λ h. let w : 0 < width d = wide d in simp rules (omega (arith, h .1 .0), (h .0, (h .1 .0, h .1 .1))),
+    λ h. let w : 0 < width p d = wide p d in simp rules (omega (arith, h .1 .0), (h .0, (h .1 .0, h .1 .1))),
   )
 
   pub first-tests : (firstRules r ≡ 0)
@@ -95,7 +96,7 @@ module _ (drawn : Bool) (p : Parameters) (r : List ℕ) where
       × (((c : ℕ) → c < 3 → opened (ballotOpeningOf p r j c) < p .modulus)
       × ((sideOf p r j ≤ 1)
       × ((drawn ≡ true → sideOf p r j ≡ drawnSide (challenge (secondDiceOf p r) (take (atSecondDice p) r)) j)
-      × ((c : ℕ) → c < 3 → commitment (inBallot (idOf p r j) (2 * c + sideOf p r j)) (ballotOpeningOf p r j c) ≡ ballotCommitmentOf p r j (2 * c + sideOf p r j))))))
+      × ((c : ℕ) → c < 3 → commitment p (InBallot (idOf p r j) (2 * c + sideOf p r j)) (ballotOpeningOf p r j c) ≡ ballotCommitmentOf p r j (2 * c + sideOf p r j))))))
   unfolding ballotHalfRules numbersBelow gives
   ballot-half-tests j = simp tests Iff·rfl
 
@@ -108,7 +109,7 @@ module _ (drawn : Bool) (p : Parameters) (r : List ℕ) where
       ↔ ((number r (fullPlace p r l i + 1) 1 ≡ l)
       × ((number r (fullPlace p r l i + 2) 2 ≡ i)
       × (((q : ℕ) → q < 6 → opened (fullOpeningOf p r l i q) < p .modulus)
-      × (((q : ℕ) → q < 6 → commitment (inEntry l i q) (fullOpeningOf p r l i q) ≡ entryCommitmentOf p r l i q)
+      × (((q : ℕ) → q < 6 → commitment p (InEntry l i q) (fullOpeningOf p r l i q) ≡ entryCommitmentOf p r l i q)
       × (i + 1 ≡ p .ballots → (x : ℕ) → times x (λ i. (opened (fullOpeningOf p r l i 0) + opened (fullOpeningOf p r l i 1) + opened (fullOpeningOf p r l i 2) + opened (fullOpeningOf p r l i 3) + opened (fullOpeningOf p r l i 4) + opened (fullOpeningOf p r l i 5)) % p .modulus) (p .ballots) ≡ times x (voteOf p r) (p .ballots))))))
   unfolding fullRules numbersBelow gives
   full-tests l i = simp (tests, permutes-iff, sum-of-six) Iff·rfl
@@ -118,7 +119,7 @@ module _ (drawn : Bool) (p : Parameters) (r : List ℕ) where
       × ((number r (listHalfPlace p r l j + 2) 2 ≡ positionOf p r l j)
       × (((c : ℕ) → c < 3 → opened (listOpeningOf p r l j c) < p .modulus)
       × (((c : ℕ) → c < 3
-      → commitment (inEntry l (positionOf p r l j) (2 * c + sideOf p r j)) (listOpeningOf p r l j c) ≡ entryCommitmentOf p r l (positionOf p r l j) (2 * c + sideOf p r j))
+      → commitment p (InEntry l (positionOf p r l j) (2 * c + sideOf p r j)) (listOpeningOf p r l j c) ≡ entryCommitmentOf p r l (positionOf p r l j) (2 * c + sideOf p r j))
       × ((sideOf p r j ≡ 0
       → (opened (ballotOpeningOf p r j 0) + opened (ballotOpeningOf p r j 1) + opened (ballotOpeningOf p r j 2)) % p .modulus
       ≡ (opened (listOpeningOf p r l j 0) + opened (listOpeningOf p r l j 1) + opened (listOpeningOf p r l j 2) + shiftOf p r l j) % p .modulus)

@@ -34,7 +34,7 @@ pub all-below-iff : (k : ℕ) (l : List ℕ) → (allBelow k l ≡ true) ↔ Bel
 unfolding allBelow
 all-below-iff k l = simp rules Iff·rfl
 
-pub binary-iff : (s : Slices) (sides : List ℕ) → (binarySides s sides ≡ true) ↔ ((j : ℕ) → j < s .ballots → item sides j ≤ 1)
+pub binary-iff : (s : Slices) (sides : List ℕ) → (binarySides s sides ≡ true) ↔ ((j : ℕ) → j < s .parameters .ballots → item sides j ≤ 1)
 unfolding binarySides
 binary-iff s sides = simp rules Iff·rfl
 
@@ -48,25 +48,25 @@ permutation-iff n perm = (
 -- ---- what no refusal gives
 
 pub record Unrefused (s : Slices) (lengths fair shape binary : Bool) : Type 0 where
-  pub modulus-low : 2 ≤ s .modulus
-  pub modulus-high : s .modulus ≤ 4294967295
-  pub ballots-low : 1 ≤ s .ballots
-  pub ballots-high : s .ballots ≤ mostBallots
-  pub compared-low : 1 ≤ s .compared
-  pub compared-high : s .compared ≤ 12
-  pub ids-long : length (s .ids) ≡ s .ballots
-  pub votes-long : length (s .votes) ≡ s .ballots
-  pub numbers-long : length (s .numbers) ≡ 5 * s .ballots + 18 * (s .compared * s .ballots)
-  pub permutations-long : length (s .permutations) ≡ 6 * (s .compared * s .ballots)
-  pub keys-long : length (s .keys) ≡ 192 * s .ballots + 384 * (s .compared * s .ballots)
+  pub modulus-low : 2 ≤ s .parameters .modulus
+  pub modulus-high : s .parameters .modulus ≤ 4294967295
+  pub ballots-low : 1 ≤ s .parameters .ballots
+  pub ballots-high : s .parameters .ballots ≤ mostBallots
+  pub compared-low : 1 ≤ s .parameters .compared
+  pub compared-high : s .parameters .compared ≤ 12
+  pub ids-long : length (s .ids) ≡ s .parameters .ballots
+  pub votes-long : length (s .votes) ≡ s .parameters .ballots
+  pub numbers-long : length (s .numbers) ≡ 5 * s .parameters .ballots + 18 * (s .parameters .compared * s .parameters .ballots)
+  pub permutations-long : length (s .permutations) ≡ 6 * (s .parameters .compared * s .parameters .ballots)
+  pub keys-long : length (s .keys) ≡ 192 * s .parameters .ballots + 384 * (s .parameters .compared * s .parameters .ballots)
   pub lengths-due : lengths ≡ true
-  pub ids-rise : (j : ℕ) → suc j < s .ballots → item (s .ids) j < item (s .ids) (suc j)
+  pub ids-rise : (j : ℕ) → suc j < s .parameters .ballots → item (s .ids) j < item (s .ids) (suc j)
   pub fair-dice : fair ≡ true
   pub right-shape : shape ≡ true
-  pub votes-below : Below (s .modulus) (s .votes)
-  pub numbers-below : Below (s .modulus) (s .numbers)
+  pub votes-below : Below (s .parameters .modulus) (s .votes)
+  pub numbers-below : Below (s .parameters .modulus) (s .numbers)
   pub binary-sides : binary ≡ true
-  pub permutations : (l c : ℕ) → l < 2 * s .compared → c < 3 → Perm (s .ballots) (inputsOf s .permutation l c)
+  pub permutations : (l c : ℕ) → l < 2 * s .parameters .compared → c < 3 → Perm (s .parameters .ballots) (inputsOf s .permutation l c)
 
 ruleset tests = (rules, all-below-iff, permutation-iff)
 
@@ -103,33 +103,33 @@ list-ends : (l m n w : ℕ) → l < 2 * m → l * (w * n) + w * n ≤ 2 * w * (m
 list-ends l m n w h = omega (arith, mul-le-mul-right {m = suc l} {n = 2 * m} (w * n) h)
 
 module _ (s : Slices) {lengths fair shape binary : Bool} (u : Unrefused s lengths fair shape binary) where
-  ballot-number : (j k : ℕ) → j < s .ballots → k < 5 → item (ballotNumbers s j) k < s .modulus
+  ballot-number : (j k : ℕ) → j < s .parameters .ballots → k < 5 → item (ballotNumbers s j) k < s .parameters .modulus
   unfolding ballotNumbers
   ballot-number j k lj lk = rw (get-piece (s .numbers) (5 * j) 5 k lk) (u .numbers-below (5 * j + k) (rw (u .numbers-long) (omega arith)))
 
-  list-number : (l k : ℕ) → l < 2 * s .compared → k < 9 * s .ballots → item (listNumbers s l) k < s .modulus
+  list-number : (l k : ℕ) → l < 2 * s .parameters .compared → k < 9 * s .parameters .ballots → item (listNumbers s l) k < s .parameters .modulus
   unfolding listNumbers
   list-number l k ll lk =
-      let at : ℕ = 5 * s .ballots + l * (9 * s .ballots) in
-      let e : l * (9 * s .ballots) + 9 * s .ballots ≤ 2 * 9 * (s .compared * s .ballots) = list-ends l (s .compared) (s .ballots) 9 ll in
-      rw (get-piece (s .numbers) at (9 * s .ballots) k lk) (u .numbers-below (at + k) (rw (u .numbers-long) (omega arith)))
+      let at : ℕ = 5 * s .parameters .ballots + l * (9 * s .parameters .ballots) in
+      let e : l * (9 * s .parameters .ballots) + 9 * s .parameters .ballots ≤ 2 * 9 * (s .parameters .compared * s .parameters .ballots) = list-ends l (s .parameters .compared) (s .parameters .ballots) 9 ll in
+      rw (get-piece (s .numbers) at (9 * s .parameters .ballots) k lk) (u .numbers-below (at + k) (rw (u .numbers-long) (omega arith)))
 
   -- column c has 2n offsets, at each place one for row one and one for row two
-  in-column : (c i k : ℕ) → c < 3 → i < s .ballots → k < 2 → c * (2 * s .ballots) + (2 * i + k) < 9 * s .ballots
-  in-column c i k lc li lk = omega (arith, mul-le-mul-right {m = c} {n = 2} (2 * s .ballots) (omega arith))
+  in-column : (c i k : ℕ) → c < 3 → i < s .parameters .ballots → k < 2 → c * (2 * s .parameters .ballots) + (2 * i + k) < 9 * s .parameters .ballots
+  in-column c i k lc li lk = omega (arith, mul-le-mul-right {m = c} {n = 2} (2 * s .parameters .ballots) (omega arith))
 
-  ballot-key : (j q : ℕ) → j < s .ballots → q < 6 → length (piece (ballotKeys s j) (32 * q) 32) ≡ 32
+  ballot-key : (j q : ℕ) → j < s .parameters .ballots → q < 6 → length (piece (ballotKeys s j) (32 * q) 32) ≡ 32
   unfolding ballotKeys
   ballot-key j q lj lq =
       let e : length (ballotKeys s j) ≡ 192 = length-piece (s .keys) (192 * j) 192 (rw (u .keys-long) (omega arith)) in
       length-piece (ballotKeys s j) (32 * q) 32 (rw e (omega arith))
 
-  entry-key : (l i q : ℕ) → l < 2 * s .compared → i < s .ballots → q < 6 → length (piece (entryKeys s l i) (32 * q) 32) ≡ 32
+  entry-key : (l i q : ℕ) → l < 2 * s .parameters .compared → i < s .parameters .ballots → q < 6 → length (piece (entryKeys s l i) (32 * q) 32) ≡ 32
   unfolding entryKeys
   entry-key l i q ll li lq =
-      let f : l * s .ballots + s .ballots ≤ 2 * (s .compared * s .ballots) = omega (arith, list-ends l (s .compared) (s .ballots) 1 ll) in
+      let f : l * s .parameters .ballots + s .parameters .ballots ≤ 2 * (s .parameters .compared * s .parameters .ballots) = omega (arith, list-ends l (s .parameters .compared) (s .parameters .ballots) 1 ll) in
       let e : length (entryKeys s l i) ≡ 192 =
-      length-piece (s .keys) (192 * s .ballots + 192 * (l * s .ballots + i)) 192 (rw (u .keys-long) (omega arith)) in
+      length-piece (s .keys) (192 * s .parameters .ballots + 192 * (l * s .parameters .ballots + i)) 192 (rw (u .keys-long) (omega arith)) in
       length-piece (entryKeys s l i) (32 * q) 32 (rw e (omega arith))
 
   pub good-inputs : Below 4294967296 (s .ids) → Good (inputsOf s)
@@ -147,8 +147,8 @@ module _ (s : Slices) {lengths fair shape binary : Bool} (u : Unrefused s length
     x-below = λ j lj. ballot-number j 0 lj (omega arith);
     y-below = λ j lj. ballot-number j 1 lj (omega arith);
     first-halves-below = λ j k lj lk. ballot-number j (2 + k) lj (omega arith);
-    offsets-below = λ l c k i ll lc lk li. list-number l (c * (2 * s .ballots) + (2 * i + k)) ll (in-column c i k lc li lk);
-    entry-first-halves-below = λ l i k ll li lk. list-number l (6 * s .ballots + (3 * i + k)) ll (omega arith);
+    offsets-below = λ l c k i ll lc lk li. list-number l (c * (2 * s .parameters .ballots) + (2 * i + k)) ll (in-column c i k lc li lk);
+    entry-first-halves-below = λ l i k ll li lk. list-number l (6 * s .parameters .ballots + (3 * i + k)) ll (omega arith);
     permutations = u .permutations;
     ballot-keys = ballot-key;
     entry-keys = entry-key;
@@ -159,14 +159,14 @@ good s lengths fair shape binary fit e = good-inputs s (unrefused s lengths fair
 
 -- dice, mask and sides that pass their tests
 pub chosen : (s : Slices) (dice₁ dice₂ : List ℕ) (mask : ℕ) (sides : List ℕ) → length dice₁ ≡ 30 → fairDice dice₁ ≡ true → length dice₂ ≡ 30 → fairDice dice₂ ≡ true
-    → rightShape (s .compared) mask ≡ true → binarySides s sides ≡ true → Chosen (inputsOf s) dice₁ dice₂ mask (item sides)
+    → rightShape (s .parameters .compared) mask ≡ true → binarySides s sides ≡ true → Chosen (inputsOf s) dice₁ dice₂ mask (item sides)
 unfolding inputsOf
 chosen s dice₁ dice₂ mask sides long₁ fair₁ long₂ fair₂ shape binary = record {
   first-long = long₁;
   first-fair = fair-iff dice₁ .0 fair₁;
   second-long = long₂;
   second-fair = fair-iff dice₂ .0 fair₂;
-  mask-ones = shape-iff (s .compared) mask .0 shape .0;
-  mask-below = shape-iff (s .compared) mask .0 shape .1;
+  mask-ones = shape-iff (s .parameters .compared) mask .0 shape .0;
+  mask-below = shape-iff (s .parameters .compared) mask .0 shape .1;
   sides = binary-iff s sides .0 binary;
 }

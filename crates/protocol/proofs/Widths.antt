@@ -75,7 +75,7 @@ module _ (p : Parameters) (r : List ℕ) where
   nextPlace (FullOpening l i) = fullPlace p r l (suc i)
   nextPlace End = recordLength p
 
-  pub no-gap : (d : Due) → placeOf p r d + width d ≡ nextPlace d
+  pub no-gap : (d : Due) → placeOf p r d + width p d ≡ nextPlace d
   unfolding nextPlace atBallot atEntry atLink atBallotHalf atListHalf atVote atFullOpening linkPlace listHalfPlace fullPlace
   no-gap First = omega arith
   no-gap (Ballot j) = omega arith

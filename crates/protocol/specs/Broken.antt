@@ -12,9 +12,10 @@ use Rattle.laws.specs.Sums.{times}
 use Rattle.protocol.specs.declared.Parameters.{Parameters}
 use Rattle.protocol.specs.declared.Due.{Due}
 use Rattle.protocol.specs.declared.Due.the-variants.{First, Ballot, Entry, FirstDice, Link, SecondDice, BallotHalf, ListHalf, Vote, FullOpening}
-use Rattle.protocol.specs.Terms.{item, mostBallots, opened, inBallot, inEntry, commitment, sumOfThree, sumOfSix}
+use Rattle.protocol.specs.declared.Place.the-variants.{InBallot, InEntry}
+use Rattle.protocol.specs.Terms.{item, mostBallots, opened, commitment, sumOfThree, sumOfSix}
 use Rattle.protocol.specs.Layout.{code, width, atEntry, atFirstDice, atSecondDice, atBallotHalf, atVote}
-use Rattle.protocol.specs.Record.{idOf, ballotCommitmentOf, entryCommitmentOf, firstDiceOf, maskOf, linkPlace, positionOf, shiftOf, secondDiceOf, sideOf, ballotOpeningOf, listHalfPlace, listOpeningOf, voteOf, fullPlace, fullOpeningOf}
+use Rattle.protocol.specs.Record.{parametersOf, idOf, ballotCommitmentOf, entryCommitmentOf, firstDiceOf, maskOf, linkPlace, positionOf, shiftOf, secondDiceOf, sideOf, ballotOpeningOf, listHalfPlace, listOpeningOf, voteOf, fullPlace, fullOpeningOf}
 use Rattle.protocol.specs.Drawing.{challenge, drawnMask, drawnSide}
 use Rattle.protocol.specs.Rules.{placeOf}
 
@@ -24,13 +25,13 @@ Unfair c = (c < 49) ⊎ (54 < c)
 
 pub data Broken (drawn : Bool) (p : Parameters) (r : List ℕ) : Due → ℕ → Type 0 where
   -- 1 "the record stops inside a command or before 0B"
-  stops : (d : Due) → length r < placeOf p r d + width d → Broken drawn p r d 1
+  stops : (d : Due) → length r < placeOf p r d + width p d → Broken drawn p r d 1
   -- 2 "a command byte that is not due"
-  not-due : (d : Due) → item r (placeOf p r d) ≢ code d → Broken drawn p r d 2
+  not-due : (d : Due) → item r (placeOf p r d) ≢ code p d → Broken drawn p r d 2
   -- 3 "M, n or m outside its limits"
-  modulus : (number r 1 4 < 2) ⊎ (4294967295 < number r 1 4) → Broken drawn p r First 3
-  ballots : (number r 5 2 < 1) ⊎ (mostBallots < number r 5 2) → Broken drawn p r First 3
-  lists : (number r 7 1 < 1) ⊎ (12 < number r 7 1) → Broken drawn p r First 3
+  modulus : (parametersOf r .modulus < 2) ⊎ (4294967295 < parametersOf r .modulus) → Broken drawn p r First 3
+  ballots : (parametersOf r .ballots < 1) ⊎ (mostBallots < parametersOf r .ballots) → Broken drawn p r First 3
+  lists : (parametersOf r .compared < 1) ⊎ (12 < parametersOf r .compared) → Broken drawn p r First 3
   -- 4 "a list, ballot, position or index operand other than the due one (in a link, list and ballot only)"
   entry-list : (l i : ℕ) → number r (atEntry p l i + 1) 1 ≢ l → Broken drawn p r (Entry l i) 4
   entry-position : (l i : ℕ) → number r (atEntry p l i + 2) 2 ≢ i → Broken drawn p r (Entry l i) 4
@@ -66,12 +67,12 @@ pub data Broken (drawn : Bool) (p : Parameters) (r : List ℕ) : Due → ℕ →
   -- 12 "side not the drawn one", only as drawn
   side-drawn : (j : ℕ) → drawn ≡ true → sideOf p r j ≢ drawnSide (challenge (secondDiceOf p r) (take (atSecondDice p) r)) j → Broken drawn p r (BallotHalf j) 12
   -- 13 "opening does not give its commitment"
-  ballot-opening : (j c : ℕ) → c < 3 → commitment (inBallot (idOf p r j) (2 * c + sideOf p r j)) (ballotOpeningOf p r j c) ≢ ballotCommitmentOf p r j (2 * c + sideOf p r j)
+  ballot-opening : (j c : ℕ) → c < 3 → commitment p (InBallot (idOf p r j) (2 * c + sideOf p r j)) (ballotOpeningOf p r j c) ≢ ballotCommitmentOf p r j (2 * c + sideOf p r j)
       → Broken drawn p r (BallotHalf j) 13
   list-opening : (l j c : ℕ) → c < 3
-      → commitment (inEntry l (positionOf p r l j) (2 * c + sideOf p r j)) (listOpeningOf p r l j c) ≢ entryCommitmentOf p r l (positionOf p r l j) (2 * c + sideOf p r j)
+      → commitment p (InEntry l (positionOf p r l j) (2 * c + sideOf p r j)) (listOpeningOf p r l j c) ≢ entryCommitmentOf p r l (positionOf p r l j) (2 * c + sideOf p r j)
       → Broken drawn p r (ListHalf l j) 13
-  full-opening : (l i q : ℕ) → q < 6 → commitment (inEntry l i q) (fullOpeningOf p r l i q) ≢ entryCommitmentOf p r l i q → Broken drawn p r (FullOpening l i) 13
+  full-opening : (l i q : ℕ) → q < 6 → commitment p (InEntry l i q) (fullOpeningOf p r l i q) ≢ entryCommitmentOf p r l i q → Broken drawn p r (FullOpening l i) 13
   -- 14 "the two halves disagree"
   first-halves : (l j : ℕ) → sideOf p r j ≡ 0
       → sumOfThree (p .modulus) (ballotOpeningOf p r j) ≢ plus (p .modulus) (sumOfThree (p .modulus) (listOpeningOf p r l j)) (shiftOf p r l j) → Broken drawn p r (ListHalf l j) 14

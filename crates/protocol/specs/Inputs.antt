@@ -16,9 +16,7 @@ use Rattle.protocol.specs.Rules.{fairDice, rightShape}
 
 -- "Inputs of every part": as the servers are handed them, in slices
 pub record Slices : Type 0 where
-  pub modulus : ℕ
-  pub ballots : ℕ
-  pub compared : ℕ
+  pub parameters : Parameters
   pub ids : List ℕ
   pub votes : List ℕ
   pub numbers : List ℕ
@@ -26,12 +24,9 @@ pub record Slices : Type 0 where
   pub keys : List ℕ
 
 -- the slices as an entry is lent them
-abbrev pub given : ℕ → ℕ → ℕ → List ℕ → List ℕ → List ℕ → List ℕ → List ℕ → Slices
-given modulus ballots compared ids votes numbers permutations keys =
-    record { modulus = modulus; ballots = ballots; compared = compared; ids = ids; votes = votes; numbers = numbers; permutations = permutations; keys = keys }
-
-abbrev pub parametersFor : Slices → Parameters
-parametersFor s = record { modulus = s .modulus; ballots = s .ballots; compared = s .compared }
+abbrev pub given : Parameters → List ℕ → List ℕ → List ℕ → List ℕ → List ℕ → Slices
+given p ids votes numbers permutations keys =
+    record { parameters = p; ids = ids; votes = votes; numbers = numbers; permutations = permutations; keys = keys }
 
 -- ---- one by one
 
@@ -57,31 +52,31 @@ module _ (s : Slices) where
   -- "then per list three columns of n offset pairs (rows one and two, in that column's incoming order) and n triples of first halves
   -- (by list position)"
   unfoldable pub listNumbers : ℕ → List ℕ
-  listNumbers l = piece (s .numbers) (5 * s .ballots + l * (9 * s .ballots)) (9 * s .ballots)
+  listNumbers l = piece (s .numbers) (5 * s .parameters .ballots + l * (9 * s .parameters .ballots)) (9 * s .parameters .ballots)
 
   -- "permutations, three per list"
   unfoldable pub listPermutations : ℕ → List ℕ
-  listPermutations l = piece (s .permutations) (l * (3 * s .ballots)) (3 * s .ballots)
+  listPermutations l = piece (s .permutations) (l * (3 * s .parameters .ballots)) (3 * s .parameters .ballots)
 
   -- "keys, 192 bytes per ballot, then per list and position"
   unfoldable pub ballotKeys : ℕ → List ℕ
   ballotKeys j = piece (s .keys) (192 * j) 192
 
   unfoldable pub entryKeys : ℕ → ℕ → List ℕ
-  entryKeys l i = piece (s .keys) (192 * s .ballots + 192 * (l * s .ballots + i)) 192
+  entryKeys l i = piece (s .keys) (192 * s .parameters .ballots + 192 * (l * s .parameters .ballots + i)) 192
 
   unfoldable pub inputsOf : Inputs
   inputsOf =
       record {
-        parameters = parametersFor s;
+        parameters = s .parameters;
         id = item (s .ids);
         vote = item (s .votes);
         x = λ j. item (ballotNumbers j) 0;
         y = λ j. item (ballotNumbers j) 1;
         firstHalf = λ j k. item (ballotNumbers j) (2 + k);
-        offset = λ l column row i. item (listNumbers l) (column * (2 * s .ballots) + (2 * i + row));
-        entryFirstHalf = λ l i k. item (listNumbers l) (6 * s .ballots + (3 * i + k));
-        permutation = λ l column i. item (listPermutations l) (column * s .ballots + i);
+        offset = λ l column row i. item (listNumbers l) (column * (2 * s .parameters .ballots) + (2 * i + row));
+        entryFirstHalf = λ l i k. item (listNumbers l) (6 * s .parameters .ballots + (3 * i + k));
+        permutation = λ l column i. item (listPermutations l) (column * s .parameters .ballots + i);
         ballotKey = λ j q. piece (ballotKeys j) (32 * q) 32;
         entryKey = λ l i q. piece (entryKeys l i) (32 * q) 32;
       }
@@ -91,8 +86,8 @@ module _ (s : Slices) where
   -- "Every slice has exactly its due length."
   unfoldable pub dueLengths : Bool
   dueLengths =
-      let n = s .ballots in
-      let mn = s .compared * s .ballots in
+      let n = s .parameters .ballots in
+      let mn = s .parameters .compared * s .parameters .ballots in
       equal (length (s .ids)) n
       and equal (length (s .votes)) n
       and equal (length (s .numbers)) (5 * n + 18 * mn)
@@ -101,51 +96,51 @@ module _ (s : Slices) where
 
   -- 5, "an id not above the one before"
   unfoldable pub idsRise : Bool
-  idsRise = every (λ j. equal j 0 or below (item (s .ids) (j - 1)) (item (s .ids) j)) (s .ballots)
+  idsRise = every (λ j. equal j 0 or below (item (s .ids) (j - 1)) (item (s .ids) j)) (s .parameters .ballots)
 
   -- 19, "a permutation that is none"
   unfoldable pub allPermutations : Bool
-  allPermutations = every (λ l. every (λ c. isPermutation (s .ballots) (inputsOf .permutation l c)) 3) (lists (parametersFor s))
+  allPermutations = every (λ l. every (λ c. isPermutation (s .parameters .ballots) (inputsOf .permutation l c)) 3) (lists (s .parameters))
 
   -- the tests of every part; those of its other slices, dice, mask and sides are a part's own
   unfoldable pub refusal : Bool → Bool → Bool → Bool → ℕ
   refusal lengths fair shape binary =
-      rule 3 (inLimits (s .modulus) (s .ballots) (s .compared))
+      rule 3 (inLimits (s .parameters))
       (rule 18 (dueLengths and lengths)
       (rule 5 idsRise
       (rule 6 fair
-      (rule 7 shape (rule 10 (allBelow (s .modulus) (s .votes) and allBelow (s .modulus) (s .numbers)) (rule 11 binary (rule 19 allPermutations kept)))))))
+      (rule 7 shape (rule 10 (allBelow (s .parameters .modulus) (s .votes) and allBelow (s .parameters .modulus) (s .numbers)) (rule 11 binary (rule 19 allPermutations kept)))))))
 
   -- part one into a buffer
   unfoldable pub partOneRefusal : ℕ → ℕ
-  partOneRefusal outLong = refusal (equal outLong (partOneLength (parametersFor s))) true true true
+  partOneRefusal outLong = refusal (equal outLong (partOneLength (s .parameters))) true true true
 
   -- part two, mask given
   unfoldable pub partTwoRefusal : List ℕ → ℕ → ℕ → ℕ
   partTwoRefusal dice mask outLong =
-      refusal (equal (length dice) 30 and equal outLong (partTwoLength (parametersFor s))) (fairDice dice) (rightShape (s .compared) mask) true
+      refusal (equal (length dice) 30 and equal outLong (partTwoLength (s .parameters))) (fairDice dice) (rightShape (s .parameters .compared) mask) true
 
   -- part two, mask drawn from the dice and part one as lent
   unfoldable pub partTwoDrawnRefusal : List ℕ → ℕ → ℕ → ℕ
   partTwoDrawnRefusal dice oneLong outLong =
-      refusal (equal (length dice) 30 and equal oneLong (partOneLength (parametersFor s)) and equal outLong (partTwoLength (parametersFor s))) (fairDice dice) true true
+      refusal (equal (length dice) 30 and equal oneLong (partOneLength (s .parameters)) and equal outLong (partTwoLength (s .parameters))) (fairDice dice) true true
 
   -- part three, sides given: 11, "side byte above 1"
   unfoldable pub binarySides : List ℕ → Bool
-  binarySides sides = every (λ j. atMost (item sides j) 1) (s .ballots)
+  binarySides sides = every (λ j. atMost (item sides j) 1) (s .parameters .ballots)
 
   unfoldable pub partThreeRefusal : List ℕ → ℕ → List ℕ → ℕ → ℕ
   partThreeRefusal dice mask sides outLong =
-      refusal (equal (length dice) 30 and equal (length sides) (s .ballots) and equal outLong (partThreeLength (parametersFor s)))
-      (fairDice dice) (rightShape (s .compared) mask) (binarySides sides)
+      refusal (equal (length dice) 30 and equal (length sides) (s .parameters .ballots) and equal outLong (partThreeLength (s .parameters)))
+      (fairDice dice) (rightShape (s .parameters .compared) mask) (binarySides sides)
 
   -- part three, sides drawn from the dice and parts one and two as lent
   unfoldable pub partThreeDrawnRefusal : List ℕ → ℕ → ℕ → ℕ → ℕ → ℕ
   partThreeDrawnRefusal dice mask oneLong twoLong outLong =
       refusal
-      (equal (length dice) 30 and equal oneLong (partOneLength (parametersFor s)) and equal twoLong (partTwoLength (parametersFor s))
-      and equal outLong (partThreeLength (parametersFor s)))
-      (fairDice dice) (rightShape (s .compared) mask) true
+      (equal (length dice) 30 and equal oneLong (partOneLength (s .parameters)) and equal twoLong (partTwoLength (s .parameters))
+      and equal outLong (partThreeLength (s .parameters)))
+      (fairDice dice) (rightShape (s .parameters .compared) mask) true
 
 -- the answer that a number is
 unfoldable pub writtenOf : ℕ → Written

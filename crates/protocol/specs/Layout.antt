@@ -5,54 +5,54 @@ use Rattle.protocol.specs.declared.Parameters.{Parameters}
 use Rattle.protocol.specs.declared.Due.{Due}
 use Rattle.protocol.specs.declared.Due.the-variants.{First, Ballot, Entry, FirstDice, Link, SecondDice, BallotHalf, ListHalf, Vote, FullOpening, End}
 
+-- "01 parameters: M 4, n 2, m 1.": the first command's width
+abbrev pub firstWidth : Parameters → ℕ
+firstWidth p = 8
+
 -- "A command is one byte with operands of fixed widths."
-abbrev pub code : Due → ℕ
-code First = 0x01
-code (Ballot j) = 0x02
-code (Entry l i) = 0x03
-code FirstDice = 0x04
-code (Link l j) = 0x05
-code SecondDice = 0x06
-code (BallotHalf j) = 0x07
-code (ListHalf l j) = 0x08
-code (Vote i) = 0x09
-code (FullOpening l i) = 0x0A
-code End = 0x0B
+abbrev pub code : Parameters → Due → ℕ
+code p First = 0x01
+code p (Ballot j) = 0x02
+code p (Entry l i) = 0x03
+code p FirstDice = 0x04
+code p (Link l j) = 0x05
+code p SecondDice = 0x06
+code p (BallotHalf j) = 0x07
+code p (ListHalf l j) = 0x08
+code p (Vote i) = 0x09
+code p (FullOpening l i) = 0x0A
+code p End = 0x0B
 
 -- the command byte and its operands
-abbrev pub width : Due → ℕ
-width First = 8
-width (Ballot j) = 197
-width (Entry l i) = 196
-width FirstDice = 35
-width (Link l j) = 10
-width SecondDice = 31
-width (BallotHalf j) = 112
-width (ListHalf l j) = 112
-width (Vote i) = 7
-width (FullOpening l i) = 220
-width End = 1
+abbrev pub width : Parameters → Due → ℕ
+width p First = firstWidth p
+width p (Ballot j) = 197
+width p (Entry l i) = 196
+width p FirstDice = 35
+width p (Link l j) = 10
+width p SecondDice = 31
+width p (BallotHalf j) = 112
+width p (ListHalf l j) = 112
+width p (Vote i) = 7
+width p (FullOpening l i) = 220
+width p End = 1
 
 module _ (p : Parameters) where
   -- "There are 2m lists"
   abbrev pub lists : ℕ
   lists = 2 * p .compared
 
-  -- the width of the first command
-  abbrev pub firstWidth : ℕ
-  firstWidth = 8
-
   -- "02 ballot, n times"
   unfoldable pub atBallot : ℕ → ℕ
-  atBallot j = firstWidth + 197 * j
+  atBallot j = firstWidth p + 197 * j
 
   -- "03 list entry, lists then positions rising"
   unfoldable pub atEntry : ℕ → ℕ → ℕ
-  atEntry l i = firstWidth + 197 * p .ballots + 196 * (l * p .ballots + i)
+  atEntry l i = firstWidth p + 197 * p .ballots + 196 * (l * p .ballots + i)
 
   -- "04 first dice"
   unfoldable pub atFirstDice : ℕ
-  atFirstDice = firstWidth + 197 * p .ballots + 196 * (lists * p .ballots)
+  atFirstDice = firstWidth p + 197 * p .ballots + 196 * (lists * p .ballots)
 
   -- "05 link, compared lists rising, ballots rising in each"; c compared lists come before
   unfoldable pub atLink : ℕ → ℕ → ℕ

@@ -123,7 +123,7 @@ page r = pick (atMost (length r) 65536) (pageOf (numberOf (firstFault true r)) (
 
 unfoldable pub drawRefusal : Parameters → List ℕ → ℕ → ℕ
 drawRefusal p dice oneLong =
-    rule 3 (inLimits (p .modulus) (p .ballots) (p .compared))
+    rule 3 (inLimits p)
     (rule 18 (equal (length dice) 30 and equal oneLong (partOneLength p)) (rule 6 (fairDice dice) kept))
 
 unfoldable pub drawOf : ℕ → ℕ → Draw

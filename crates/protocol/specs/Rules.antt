@@ -14,9 +14,11 @@ use Rattle.laws.specs.Permuting.{permutes}
 use Rattle.protocol.specs.declared.Parameters.{Parameters}
 use Rattle.protocol.specs.declared.Due.{Due}
 use Rattle.protocol.specs.declared.Due.the-variants.{First, Ballot, Entry, FirstDice, Link, SecondDice, BallotHalf, ListHalf, Vote, FullOpening, End}
-use Rattle.protocol.specs.Terms.{item, inLimits, opened, Place, inBallot, inEntry, commitment, sumOfThree, sumOfSix}
+use Rattle.protocol.specs.declared.Place.{Place}
+use Rattle.protocol.specs.declared.Place.the-variants.{InBallot, InEntry}
+use Rattle.protocol.specs.Terms.{item, inLimits, opened, commitment, sumOfThree, sumOfSix}
 use Rattle.protocol.specs.Layout.{code, width, atBallot, atEntry, atFirstDice, atSecondDice, atBallotHalf, atVote, atEnd}
-use Rattle.protocol.specs.Record.{idOf, ballotCommitmentOf, entryCommitmentOf, firstDiceOf, maskOf, linkPlace, positionOf, shiftOf, secondDiceOf, sideOf, ballotOpeningOf, listHalfPlace, listOpeningOf, voteOf, fullPlace, fullOpeningOf}
+use Rattle.protocol.specs.Record.{parametersOf, idOf, ballotCommitmentOf, entryCommitmentOf, firstDiceOf, maskOf, linkPlace, positionOf, shiftOf, secondDiceOf, sideOf, ballotOpeningOf, listHalfPlace, listOpeningOf, voteOf, fullPlace, fullOpeningOf}
 use Rattle.protocol.specs.Drawing.{challenge, drawnMask, drawnSide}
 
 -- ---- tests of numbers, for judge and writers alike
@@ -37,8 +39,8 @@ unfoldable pub numbersBelow : ℕ → (ℕ → List ℕ) → ℕ → Bool
 numbersBelow M openings k = every (λ i. below (opened (openings i)) M) k
 
 -- rule 13, "opening does not give its commitment": that it does
-unfoldable pub gives : Place → List ℕ → List ℕ → Bool
-gives place o posted = same (commitment place o) posted
+unfoldable pub gives : Parameters → Place → List ℕ → List ℕ → Bool
+gives p place o posted = same (commitment p place o) posted
 
 -- rule 14, "the two halves disagree": "the ballot's three opened numbers must equal in sum: on side 0 the list's three plus t, on side 1 the list's three
 -- minus t". `ballot` and `list` are the sums of the three. The sign changes because t is what the ballot's first halves have more than the list's
@@ -52,7 +54,7 @@ agrees M (suc side) ballot list t = equal ballot (minus M list t)
 
 -- 01: 3
 unfoldable pub firstRules : List ℕ → ℕ
-firstRules r = rule 3 (inLimits (number r 1 4) (number r 5 2) (number r 7 1)) kept
+firstRules r = rule 3 (inLimits (parametersOf r)) kept
 
 module _ (p : Parameters) (r : List ℕ) where
   -- 02: 5, "an id not above the one before"
@@ -90,7 +92,7 @@ module _ (p : Parameters) (r : List ℕ) where
       (rule 10 (numbersBelow (p .modulus) (ballotOpeningOf p r j) 3)
       (rule 11 (atMost (sideOf p r j) 1)
       (rule 12 (drawn implies equal (sideOf p r j) (drawnSide (challenge (secondDiceOf p r) (take (atSecondDice p) r)) j))
-      (rule 13 (every (λ k. gives (inBallot (idOf p r j) (2 * k + sideOf p r j)) (ballotOpeningOf p r j k) (ballotCommitmentOf p r j (2 * k + sideOf p r j))) 3) kept))))
+      (rule 13 (every (λ k. gives p (InBallot (idOf p r j) (2 * k + sideOf p r j)) (ballotOpeningOf p r j k) (ballotCommitmentOf p r j (2 * k + sideOf p r j))) 3) kept))))
 
   -- 08: 4, the position being "the linked one"; 10; 13, "of the same side"; 14
   unfoldable pub listHalfRules : ℕ → ℕ → ℕ
@@ -98,7 +100,7 @@ module _ (p : Parameters) (r : List ℕ) where
       rule 4 (equal (number r (listHalfPlace p r l j + 1) 1) l)
       (rule 4 (equal (number r (listHalfPlace p r l j + 2) 2) (positionOf p r l j))
       (rule 10 (numbersBelow (p .modulus) (listOpeningOf p r l j) 3)
-      (rule 13 (every (λ k. gives (inEntry l (positionOf p r l j) (2 * k + sideOf p r j)) (listOpeningOf p r l j k) (entryCommitmentOf p r l (positionOf p r l j) (2 * k + sideOf p r j))) 3)
+      (rule 13 (every (λ k. gives p (InEntry l (positionOf p r l j) (2 * k + sideOf p r j)) (listOpeningOf p r l j k) (entryCommitmentOf p r l (positionOf p r l j) (2 * k + sideOf p r j))) 3)
       (rule 14 (agrees (p .modulus) (sideOf p r j) (sumOfThree (p .modulus) (ballotOpeningOf p r j)) (sumOfThree (p .modulus) (listOpeningOf p r l j)) (shiftOf p r l j)) kept))))
 
   -- 09: 4; 10; 15, "No vote is smaller than the one before"
@@ -114,7 +116,7 @@ module _ (p : Parameters) (r : List ℕ) where
       rule 4 (equal (number r (fullPlace p r l i + 1) 1) l)
       (rule 4 (equal (number r (fullPlace p r l i + 2) 2) i)
       (rule 10 (numbersBelow (p .modulus) (fullOpeningOf p r l i) 6)
-      (rule 13 (every (λ q. gives (inEntry l i q) (fullOpeningOf p r l i q) (entryCommitmentOf p r l i q)) 6)
+      (rule 13 (every (λ q. gives p (InEntry l i q) (fullOpeningOf p r l i q) (entryCommitmentOf p r l i q)) 6)
       (rule 16 (equal (i + 1) (p .ballots) implies permutes (λ k. sumOfSix (p .modulus) (fullOpeningOf p r l k)) (voteOf p r) (p .ballots)) kept))))
 
   abbrev pub rules : Bool → Due → ℕ
@@ -148,4 +150,4 @@ module _ (p : Parameters) (r : List ℕ) where
   unfoldable pub fault : Bool → Due → ℕ
   fault drawn d =
       rule 1 (below (placeOf d) (length r))
-      (rule 2 (equal (item r (placeOf d)) (code d)) (rule 1 (atMost (placeOf d + width d) (length r)) (rules drawn d)))
+      (rule 2 (equal (item r (placeOf d)) (code p d)) (rule 1 (atMost (placeOf d + width p d) (length r)) (rules drawn d)))

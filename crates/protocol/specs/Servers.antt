@@ -5,7 +5,8 @@ use Rattle.laws.specs.Modular.{plus, minus}
 use Rattle.laws.specs.Permutations.{whence}
 use Rattle.laws.specs.Sorting.{sort}
 use Rattle.laws.specs.Tables.{tabulate}
-use Rattle.protocol.specs.Terms.{item, inBallot, inEntry, commitment, opening}
+use Rattle.protocol.specs.declared.Place.the-variants.{InBallot, InEntry}
+use Rattle.protocol.specs.Terms.{item, commitment, opening}
 use Rattle.protocol.specs.Tablet.{oneOfThree, share, slot}
 use Rattle.protocol.specs.Columns.{row, thirdOffset, source}
 use Rattle.protocol.specs.Record.{Board, Comparison, Disclosure, partOne, partTwo, partThree}
@@ -73,8 +74,8 @@ module _ (s : Inputs) where
       record {
         parameters = s .parameters;
         id = s .id;
-        ballotCommitment = λ j q. commitment (inBallot (s .id j) q) (ballotOpening j q);
-        entryCommitment = λ l i q. commitment (inEntry l i q) (entryOpening l i q);
+        ballotCommitment = λ j q. commitment (s .parameters) (InBallot (s .id j) q) (ballotOpening j q);
+        entryCommitment = λ l i q. commitment (s .parameters) (InEntry l i q) (entryOpening l i q);
       }
 
   unfoldable pub postedComparison : List ℕ → ℕ → Comparison
@@ -103,7 +104,7 @@ module _ (s : Slices) where
 
   -- mask "drawn from these dice and the earlier parts as lent"
   unfoldable pub maskFor : List ℕ → List ℕ → ℕ
-  maskFor dice one = drawnMask (s .compared) (challenge dice one)
+  maskFor dice one = drawnMask (s .parameters .compared) (challenge dice one)
 
   -- sides given
   unfoldable pub thirdPart : List ℕ → ℕ → List ℕ → List ℕ
@@ -111,4 +112,4 @@ module _ (s : Slices) where
 
   -- sides drawn
   unfoldable pub sidesFor : List ℕ → List ℕ → List ℕ → List ℕ
-  sidesFor dice one two = drawnSides (s .ballots) (challenge dice (one ++ two))
+  sidesFor dice one two = drawnSides (s .parameters .ballots) (challenge dice (one ++ two))

@@ -10,7 +10,8 @@ use Rattle.laws.specs.Masks.{bit}
 use Rattle.laws.specs.Permutations.{Perm}
 use Rattle.laws.specs.Sums.{times}
 use Rattle.protocol.specs.declared.Parameters.{Parameters}
-use Rattle.protocol.specs.Terms.{item, mostBallots, opened, inBallot, inEntry, commitment}
+use Rattle.protocol.specs.declared.Place.the-variants.{InBallot, InEntry}
+use Rattle.protocol.specs.Terms.{item, mostBallots, opened, commitment}
 use Rattle.protocol.specs.Layout.{lists, atBallot, atEntry, atFirstDice, atSecondDice, atBallotHalf, atVote, atEnd}
 use Rattle.protocol.specs.Record.{parametersOf, firstDiceOf, maskOf, linkPlace, positionOf, secondDiceOf, sideOf, listHalfPlace, fullPlace, Board, Comparison, Disclosure, boardOf, comparisonOf, disclosureOf}
 use Rattle.protocol.specs.Drawing.{challenge, drawnMask, drawnSide}
@@ -61,11 +62,11 @@ pub record Valid (b : Board) (k : Comparison) (d : Disclosure) : Type 0 where
   -- every opened number below M, every opening giving its commitment
   pub ballot-numbers : (j c : ℕ) → j < b .parameters .ballots → c < 3 → opened (d .ballotOpening j c) < b .parameters .modulus
   pub ballot-opens : (j c : ℕ) → j < b .parameters .ballots → c < 3
-      → commitment (inBallot (b .id j) (2 * c + d .side j)) (d .ballotOpening j c) ≡ b .ballotCommitment j (2 * c + d .side j)
+      → commitment (b .parameters) (InBallot (b .id j) (2 * c + d .side j)) (d .ballotOpening j c) ≡ b .ballotCommitment j (2 * c + d .side j)
   -- "three openings of the same side"
   pub list-numbers : (l j c : ℕ) → l < lists (b .parameters) → bit (k .mask) l ≡ 1 → j < b .parameters .ballots → c < 3 → opened (d .listOpening l j c) < b .parameters .modulus
   pub list-opens : (l j c : ℕ) → l < lists (b .parameters) → bit (k .mask) l ≡ 1 → j < b .parameters .ballots → c < 3
-      → commitment (inEntry l (k .position l j) (2 * c + d .side j)) (d .listOpening l j c) ≡ b .entryCommitment l (k .position l j) (2 * c + d .side j)
+      → commitment (b .parameters) (InEntry l (k .position l j) (2 * c + d .side j)) (d .listOpening l j c) ≡ b .entryCommitment l (k .position l j) (2 * c + d .side j)
   -- "on side 0 the list's three plus t"
   pub first-halves-agree : (l j : ℕ) → l < lists (b .parameters) → bit (k .mask) l ≡ 1 → j < b .parameters .ballots → d .side j ≡ 0
       → (opened (d .ballotOpening j 0) + opened (d .ballotOpening j 1) + opened (d .ballotOpening j 2)) % b .parameters .modulus
@@ -81,7 +82,7 @@ pub record Valid (b : Board) (k : Comparison) (d : Disclosure) : Type 0 where
   -- all six openings of every place of an opened list
   pub full-numbers : (l i q : ℕ) → l < lists (b .parameters) → bit (k .mask) l ≡ 0 → i < b .parameters .ballots → q < 6 → opened (d .fullOpening l i q) < b .parameters .modulus
   pub full-opens : (l i q : ℕ) → l < lists (b .parameters) → bit (k .mask) l ≡ 0 → i < b .parameters .ballots → q < 6
-      → commitment (inEntry l i q) (d .fullOpening l i q) ≡ b .entryCommitment l i q
+      → commitment (b .parameters) (InEntry l i q) (d .fullOpening l i q) ≡ b .entryCommitment l i q
   -- "An opened list's n values (six numbers summed) are a permutation of the announced votes": each number is among them as often
   pub values : (l : ℕ) → l < lists (b .parameters) → bit (k .mask) l ≡ 0 → (x : ℕ)
       → times x

@@ -7,6 +7,12 @@ use Rattle.laws.specs.Tests.{below, atMost, _and_, every, pick}
 use Rattle.laws.specs.Bytes.{number, bytes}
 use Rattle.laws.specs.Modular.{plus}
 use Rattle.sha3.specs.Sha3.{sha3-256}
+use Rattle.protocol.specs.declared.Parameters.{Parameters}
+use Rattle.protocol.specs.declared.Place.{Place}
+
+-- the parameters M, n and m
+abbrev pub parameters : ℕ → ℕ → ℕ → Parameters
+parameters M n m = record { modulus = M; ballots = n; compared = m }
 
 -- "M is the modulus, 2 to 4,294,967,295."
 unfoldable pub modulusInLimits : ℕ → Bool
@@ -24,8 +30,8 @@ unfoldable pub listsInLimits : ℕ → Bool
 listsInLimits m = atMost 1 m and atMost m 12
 
 -- rule 3: "M, n or m outside its limits"
-unfoldable pub inLimits : ℕ → ℕ → ℕ → Bool
-inLimits M n m = modulusInLimits M and ballotsInLimits n and listsInLimits m
+unfoldable pub inLimits : Parameters → Bool
+inLimits p = modulusInLimits (p .modulus) and ballotsInLimits (p .ballots) and listsInLimits (p .compared)
 
 -- "Indices, list numbers and positions start at 0."
 abbrev pub item : List ℕ → ℕ → ℕ
@@ -44,14 +50,10 @@ opening key x = key ++ bytes 4 x
 unfoldable pub opened : List ℕ → ℕ
 opened o = number o 32 4
 
--- Where a commitment is posted: one of the six slots u1, v1, u2, v2, u3, v3 of a ballot or of a list entry.
-pub data Place : Type 0 where
-  inBallot : (id slot : ℕ) → Place
-  inEntry : (list position slot : ℕ) → Place
-
--- "A commitment is the SHA3-256 of an opening's 36 bytes." The place is handed on by every rule, and does not matter.
-unfoldable pub commitment : Place → List ℕ → List ℕ
-commitment place o = sha3-256 o
+-- "A commitment is the SHA3-256 of an opening's 36 bytes." The parameters and the place where it is posted are handed on by every rule,
+-- and do not matter.
+unfoldable pub commitment : Parameters → Place → List ℕ → List ℕ
+commitment p place o = sha3-256 o
 
 -- "Sums and differences are taken modulo M." The numbers in three openings, and in six, summed.
 unfoldable pub sumOfThree : ℕ → (ℕ → List ℕ) → ℕ

@@ -1,7 +1,7 @@
 // The types that code and definitions share. The definitions of document 01 are in specs/, what they mean together in proofs/.
 
 // The limit on the number of ballots, and the length of a row of marks.
-pub const MOST_BALLOTS: u32 = 1024;
+pub const MOST_BALLOTS: usize = 1024;
 
 // What the first command says: the modulus M, the number of ballots n, and m: of 2m lists m are compared and m are opened.
 pub struct Parameters {
@@ -24,6 +24,12 @@ pub enum Due {
     Vote(usize),
     FullOpening(usize, usize),
     End,
+}
+
+// Where a commitment is posted: one of the six slots u1, v1, u2, v2, u3, v3 of a ballot, by its id, or of a list entry, by list and position.
+pub enum Place {
+    InBallot(u32, usize),
+    InEntry(usize, usize, usize),
 }
 
 // The answer of a judge: accepted, or the number of the first rule broken.

@@ -54,7 +54,7 @@ stopped true true due rest e ne h = absurd (ne e)
 stopped true false due rest e ne h = rw (h refl) e
 stopped false b due rest e ne h = e
 
-pub ready : (s : Slices) → Few (s .ballots) (s .compared) → dueLengths s ≡ true → ContentsReady (s .ballots) (s .compared) (s .ids) (s .votes) (s .permutations)
+pub ready : (s : Slices) → Few (s .parameters .ballots) (s .parameters .compared) → dueLengths s ≡ true → ContentsReady (s .parameters .ballots) (s .parameters .compared) (s .ids) (s .votes) (s .permutations)
 unfolding dueLengths
 ready s few due =
     let h = simp rules at due in
@@ -66,7 +66,7 @@ ready s few due =
 pub fair-whole : (dice : List ℕ) → length dice ≡ 30 → fairDice (piece dice 0 30) ≡ fairDice dice
 fair-whole dice is30 = ap fairDice (take-all 30 dice (omega arith))
 
-pub binary-is : (s : Slices) (sides : List ℕ) → length sides ≡ s .ballots → binary sides ≡ binarySides s sides
+pub binary-is : (s : Slices) (sides : List ℕ) → length sides ≡ s .parameters .ballots → binary sides ≡ binarySides s sides
 unfolding binary binarySides
 binary-is s sides each = rw each
 
@@ -79,10 +79,10 @@ rule-alike k true h = h refl
 rule-alike k false h = refl
 
 pub alike : (s : Slices) (lengths fair shape binary : Bool) {l f h t : Bool}
-    → (Few (s .ballots) (s .compared) → (l ≡ lengths) × (h ≡ shape)) → (lengths ≡ true → (f ≡ fair) × (t ≡ binary)) → refusal s l f h t ≡ refusal s lengths fair shape binary
+    → (Few (s .parameters .ballots) (s .parameters .compared) → (l ≡ lengths) × (h ≡ shape)) → (lengths ≡ true → (f ≡ fair) × (t ≡ binary)) → refusal s l f h t ≡ refusal s lengths fair shape binary
 alike s lengths fair shape binary {l} {f} {h} {t} first then =
     refusal-is s l f h t
     ∙ rule-alike 3 _ (λ e.
-    let (el, eh) = first (limits-few (s .modulus) (s .ballots) (s .compared) e) in
+    let (el, eh) = first (limits-few (s .parameters .modulus) (s .parameters .ballots) (s .parameters .compared) e) in
     rw el (rule-alike 18 _ (λ due. let (ef, et) = then (and-iff _ _ .0 due .1) in cc)))
     ∙ sym (refusal-is s lengths fair shape binary)

@@ -7,16 +7,16 @@ ghost use lib.ListN.{length};
 ghost use Rattle.laws.specs.Lent.{before};
 ghost use Rattle.laws.specs.Tests.{equal, atMost, _and_};
 ghost use Rattle.laws.specs.Faults.{rule, kept};
-ghost use Rattle.protocol.specs.Terms.{mostBallots, inLimits};
+ghost use Rattle.protocol.specs.Terms.{parameters, mostBallots, inLimits};
 ghost use Rattle.protocol.specs.Layout.{partOneLength, partTwoLength, partThreeLength};
 ghost use Rattle.protocol.specs.Rules.{fairDice, rightShape};
-ghost use Rattle.protocol.specs.Inputs.{given, parametersFor, refusal, binarySides, partOneRefusal, partTwoRefusal, partTwoDrawnRefusal, partThreeRefusal, partThreeDrawnRefusal};
+ghost use Rattle.protocol.specs.Inputs.{given, refusal, binarySides, partOneRefusal, partTwoRefusal, partTwoDrawnRefusal, partThreeRefusal, partThreeDrawnRefusal};
 ghost use Rattle.protocol.specs.Results.{drawRefusal};
 use protocol::Parameters;
 
 // The limits, then lengths.
 fn refuse_lengths(modulus: u32, ballots: u32, compared: u32, lengths: bool) -> u32
-    ensures { λ r. ⌜ r ≡ rule 3 (inLimits modulus ballots compared) (rule 18 lengths kept) ⌝ }
+    ensures { λ r. ⌜ r ≡ rule 3 (inLimits (parameters modulus ballots compared)) (rule 18 lengths kept) ⌝ }
 {
     if !inputs::in_limits(modulus, ballots, compared) {
         return 3;
@@ -42,7 +42,7 @@ fn refuse(
     shape: bool,
     binary: bool,
 ) -> u32
-    ensures { λ r. ⌜ r ≡ refusal (given modulus ballots compared (before ids) (before votes) (before numbers) (before permutations) (before keys)) lengths fair shape binary ⌝ }
+    ensures { λ r. ⌜ r ≡ refusal (given (parameters modulus ballots compared) (before ids) (before votes) (before numbers) (before permutations) (before keys)) lengths fair shape binary ⌝ }
 {
     let k = refuse_lengths(modulus, ballots, compared, lengths);
     if k != 0 {
@@ -152,7 +152,7 @@ pub fn part_one(
     keys: &[u8],
     out_len: usize,
 ) -> u32
-    ensures { λ r. ⌜ r ≡ partOneRefusal (given modulus ballots compared (before ids) (before votes) (before numbers) (before permutations) (before keys)) «out_len» ⌝ }
+    ensures { λ r. ⌜ r ≡ partOneRefusal (given (parameters modulus ballots compared) (before ids) (before votes) (before numbers) (before permutations) (before keys)) «out_len» ⌝ }
 {
     refuse(
         modulus,
@@ -184,7 +184,7 @@ pub fn part_two(
     mask: u32,
     out_len: usize,
 ) -> u32
-    ensures { λ r. ⌜ r ≡ partTwoRefusal (given modulus ballots compared (before ids) (before votes) (before numbers) (before permutations) (before keys)) (before dice) mask «out_len» ⌝ }
+    ensures { λ r. ⌜ r ≡ partTwoRefusal (given (parameters modulus ballots compared) (before ids) (before votes) (before numbers) (before permutations) (before keys)) (before dice) mask «out_len» ⌝ }
 {
     let two = out_len == part_two_length(ballots, compared);
     refuse(
@@ -217,7 +217,7 @@ pub fn part_two_drawn(
     one_len: usize,
     out_len: usize,
 ) -> u32
-    ensures { λ r. ⌜ r ≡ partTwoDrawnRefusal (given modulus ballots compared (before ids) (before votes) (before numbers) (before permutations) (before keys)) (before dice) «one_len» «out_len» ⌝ }
+    ensures { λ r. ⌜ r ≡ partTwoDrawnRefusal (given (parameters modulus ballots compared) (before ids) (before votes) (before numbers) (before permutations) (before keys)) (before dice) «one_len» «out_len» ⌝ }
 {
     let one = one_len == part_one_length(modulus, ballots, compared);
     let two = out_len == part_two_length(ballots, compared);
@@ -252,7 +252,7 @@ pub fn part_three_shaped(
     sides: &[u8],
     out_len: usize,
 ) -> u32
-    ensures { λ r. ⌜ r ≡ refusal (given modulus ballots compared (before ids) (before votes) (before numbers) (before permutations) (before keys)) (equal (length (before dice)) 30 and equal (length (before sides)) ballots and equal «out_len» (partThreeLength (parametersFor (given modulus ballots compared (before ids) (before votes) (before numbers) (before permutations) (before keys))))) (fairDice (before dice)) shape (binarySides (given modulus ballots compared (before ids) (before votes) (before numbers) (before permutations) (before keys)) (before sides)) ⌝ }
+    ensures { λ r. ⌜ r ≡ refusal (given (parameters modulus ballots compared) (before ids) (before votes) (before numbers) (before permutations) (before keys)) (equal (length (before dice)) 30 and equal (length (before sides)) ballots and equal «out_len» (partThreeLength (parametersFor (given (parameters modulus ballots compared) (before ids) (before votes) (before numbers) (before permutations) (before keys))))) (fairDice (before dice)) shape (binarySides (given (parameters modulus ballots compared) (before ids) (before votes) (before numbers) (before permutations) (before keys)) (before sides)) ⌝ }
 {
     let each = sides.len() == ballots as usize;
     let three = out_len == part_three_length(ballots, compared);
@@ -288,7 +288,7 @@ pub fn part_three_drawn_shaped(
     two_len: usize,
     out_len: usize,
 ) -> u32
-    ensures { λ r. ⌜ r ≡ refusal (given modulus ballots compared (before ids) (before votes) (before numbers) (before permutations) (before keys)) (equal (length (before dice)) 30 and equal «one_len» (partOneLength (parametersFor (given modulus ballots compared (before ids) (before votes) (before numbers) (before permutations) (before keys)))) and equal «two_len» (partTwoLength (parametersFor (given modulus ballots compared (before ids) (before votes) (before numbers) (before permutations) (before keys)))) and equal «out_len» (partThreeLength (parametersFor (given modulus ballots compared (before ids) (before votes) (before numbers) (before permutations) (before keys))))) (fairDice (before dice)) shape true ⌝ }
+    ensures { λ r. ⌜ r ≡ refusal (given (parameters modulus ballots compared) (before ids) (before votes) (before numbers) (before permutations) (before keys)) (equal (length (before dice)) 30 and equal «one_len» (partOneLength (parametersFor (given (parameters modulus ballots compared) (before ids) (before votes) (before numbers) (before permutations) (before keys)))) and equal «two_len» (partTwoLength (parametersFor (given (parameters modulus ballots compared) (before ids) (before votes) (before numbers) (before permutations) (before keys)))) and equal «out_len» (partThreeLength (parametersFor (given (parameters modulus ballots compared) (before ids) (before votes) (before numbers) (before permutations) (before keys))))) (fairDice (before dice)) shape true ⌝ }
 {
     let one = one_len == part_one_length(modulus, ballots, compared);
     let two = two_len == part_two_length(ballots, compared);
@@ -324,7 +324,7 @@ pub fn part_three(
     sides: &[u8],
     out_len: usize,
 ) -> u32
-    ensures { λ r. ⌜ r ≡ partThreeRefusal (given modulus ballots compared (before ids) (before votes) (before numbers) (before permutations) (before keys)) (before dice) mask (before sides) «out_len» ⌝ }
+    ensures { λ r. ⌜ r ≡ partThreeRefusal (given (parameters modulus ballots compared) (before ids) (before votes) (before numbers) (before permutations) (before keys)) (before dice) mask (before sides) «out_len» ⌝ }
 {
     part_three_shaped(
         modulus,
@@ -358,7 +358,7 @@ pub fn part_three_drawn(
     two_len: usize,
     out_len: usize,
 ) -> u32
-    ensures { λ r. ⌜ r ≡ partThreeDrawnRefusal (given modulus ballots compared (before ids) (before votes) (before numbers) (before permutations) (before keys)) (before dice) mask «one_len» «two_len» «out_len» ⌝ }
+    ensures { λ r. ⌜ r ≡ partThreeDrawnRefusal (given (parameters modulus ballots compared) (before ids) (before votes) (before numbers) (before permutations) (before keys)) (before dice) mask «one_len» «two_len» «out_len» ⌝ }
 {
     part_three_drawn_shaped(
         modulus,

@@ -5,7 +5,8 @@ use Prim.Native.Nat.{ℕ, zero, suc, _<_}
 use native.Mathlib.Omega.{arith}
 use lib.ListN.{length}
 use Rattle.laws.specs.Modular.{minus}
-use Rattle.protocol.specs.Terms.{item, inBallot, commitment}
+use Rattle.protocol.specs.declared.Place.the-variants.{InBallot}
+use Rattle.protocol.specs.Terms.{item, commitment}
 use Rattle.protocol.specs.Tablet.{share, slot, ballotCommand, tabletCommand}
 use Rattle.protocol.proofs.Honesty.{length-commitment}
 use Rattle.protocol.proofs.Widths.{length-ballot}
@@ -22,7 +23,7 @@ abbrev pub splitOf : ℕ → ℕ → ℕ → ℕ → ℕ → ℕ → ℕ → Spl
 splitOf M x y z u1 u2 u3 = record { modulus = M; value = x ∷ y ∷ z ∷ []; first = u1 ∷ u2 ∷ u3 ∷ [] }
 
 abbrev pub ballotOf : ℕ → Split → List ℕ → List ℕ
-ballotOf id s keys = ballotCommand id (λ q. commitment (inBallot id q) (slotOpening s keys q))
+ballotOf id s keys = ballotCommand id (λ q. commitment (InBallot id q) (slotOpening s keys q))
 
 pub ballot-length : (id : ℕ) (s : Split) (keys : List ℕ) → length (ballotOf id s keys) ≡ 197
 ballot-length id s keys = length-ballot id _ (λ q l. length-commitment _ _)

@@ -11,7 +11,7 @@ use Rattle.laws.specs.Tables.{tabulate, tabulate-of}
 use Rattle.laws.specs.Tests.{choose}
 use Rattle.protocol.specs.Terms.{item}
 use Rattle.protocol.specs.Record.{secondDiceCommand, ballotHalfCommand, listHalfCommand, fullCommand, halves, partThree}
-use Rattle.protocol.specs.Inputs.{Slices, parametersFor, inputsOf}
+use Rattle.protocol.specs.Inputs.{Slices, inputsOf}
 use Rattle.protocol.specs.Servers.{ballotRow, linkPosition, announced, entryOpening, postedDisclosure, thirdPart}
 use Rattle.protocol.proofs.Unrefused.{shape-iff, binary-iff}
 use Rattle.mixing.specs.Lists.{shareAt, Rows}
@@ -37,17 +37,17 @@ full-same l i o r h = ap (λ (x : List ℕ). ((10 ∷ bytes 1 l) ++ bytes 2 i) +
 
 module _ (s : Slices) (dice : List ℕ) (mask : ℕ) (sides : List ℕ) {outLong : ℕ} (w : Writable s dice mask sides outLong) where
   -- the ballots' rows as they are worked out
-  pub rows-are : {out : List ℕ} (n : ℕ) → n ≡ s .ballots → Rows (s .modulus) n (shareAt (s .modulus) (s .votes) (s .numbers)) out
-      → Rows (s .modulus) (s .ballots) (ballotRow (inputsOf s)) out
+  pub rows-are : {out : List ℕ} (n : ℕ) → n ≡ s .parameters .ballots → Rows (s .parameters .modulus) n (shareAt (s .parameters .modulus) (s .votes) (s .numbers)) out
+      → Rows (s .parameters .modulus) (s .parameters .ballots) (ballotRow (inputsOf s)) out
   rows-are n e h = ballot-rows s (rw e at h)
 
-  module _ {positions rows out : List ℕ} (placed : Placed (s .ballots) (2 * s .compared) (placeIn (s .ballots) (s .permutations)) positions)
-      (r : Rows (s .modulus) (s .ballots) (ballotRow (inputsOf s)) rows)
-      (m : Mixed (s .modulus) (s .ballots) (2 * s .compared) (mixedIn (s .modulus) (s .ballots) rows (s .numbers) (s .permutations)) out) where
-    pub three-ready : ThreeReady (parametersFor s) mask sides positions rows out (s .numbers) (s .keys)
+  module _ {positions rows out : List ℕ} (placed : Placed (s .parameters .ballots) (2 * s .parameters .compared) (placeIn (s .parameters .ballots) (s .permutations)) positions)
+      (r : Rows (s .parameters .modulus) (s .parameters .ballots) (ballotRow (inputsOf s)) rows)
+      (m : Mixed (s .parameters .modulus) (s .parameters .ballots) (2 * s .parameters .compared) (mixedIn (s .parameters .modulus) (s .parameters .ballots) rows (s .numbers) (s .permutations)) out) where
+    pub three-ready : ThreeReady (s .parameters) mask sides positions rows out (s .numbers) (s .keys)
     three-ready =
         let u = w .inputs .tests in
-        let shaped = shape-iff (s .compared) mask .0 (w .shape) in
+        let shaped = shape-iff (s .parameters .compared) mask .0 (w .shape) in
         record {
           halves = record {
             linked = record {
@@ -67,38 +67,38 @@ module _ (s : Slices) (dice : List ℕ) (mask : ℕ) (sides : List ℕ) {outLong
           binary = binary-iff s sides .0 (w .binary);
         }
 
-    linked-is : (l j side : ℕ) → l < 2 * s .compared → j < s .ballots → side ≤ 1
-        → listHalfIn (s .modulus) (s .ballots) out (s .numbers) (s .keys) l (item positions (l * s .ballots + j)) side
+    linked-is : (l j side : ℕ) → l < 2 * s .parameters .compared → j < s .parameters .ballots → side ≤ 1
+        → listHalfIn (s .parameters .modulus) (s .parameters .ballots) out (s .numbers) (s .keys) l (item positions (l * s .parameters .ballots + j)) side
         ≡ listHalfCommand l (linkPosition (inputsOf s) l j) (λ k. entryOpening (inputsOf s) l (linkPosition (inputsOf s) l j) (2 * k + side))
     linked-is l j side ll lj ls =
         let u = w .inputs .tests in
-        list-half-same l (item positions (l * s .ballots + j)) _ (λ k. entryOpening (inputsOf s) l (item positions (l * s .ballots + j)) (2 * k + side))
-        (λ k lk. entry-opening-is s u (mixed-is s u r m) l (item positions (l * s .ballots + j)) (2 * k + side) ll (placed .inside l j ll lj) (omega arith))
+        list-half-same l (item positions (l * s .parameters .ballots + j)) _ (λ k. entryOpening (inputsOf s) l (item positions (l * s .parameters .ballots + j)) (2 * k + side))
+        (λ k lk. entry-opening-is s u (mixed-is s u r m) l (item positions (l * s .parameters .ballots + j)) (2 * k + side) ll (placed .inside l j ll lj) (omega arith))
         ∙ ap (λ (i : ℕ). listHalfCommand l i (λ k. entryOpening (inputsOf s) l i (2 * k + side))) (placed-is s u placed .is l j ll lj)
 
-    halves-are : (j : ℕ) → j < s .ballots
-        → halvesIn (parametersFor s) mask positions rows out (s .numbers) (s .keys) (item sides j) j
-        ≡ halves (parametersFor s) mask (linkPosition (inputsOf s)) (postedDisclosure (inputsOf s) dice (item sides)) j
+    halves-are : (j : ℕ) → j < s .parameters .ballots
+        → halvesIn (s .parameters) mask positions rows out (s .numbers) (s .keys) (item sides j) j
+        ≡ halves (s .parameters) mask (linkPosition (inputsOf s)) (postedDisclosure (inputsOf s) dice (item sides)) j
     unfolding halves postedDisclosure
     halves-are j lj =
         let ls = binary-iff s sides .0 (w .binary) j lj in
         ap₂ (λ (x y : List ℕ). x ++ y)
         (ballot-half-same j (item sides j) _ _ (λ k lk. ballot-opening-is s (w .inputs .tests) r j (2 * k + item sides j) lj (omega arith)))
-        (chunks-same _ _ (2 * s .compared) (λ l ll. ap (choose (bit mask l) []) (linked-is l j (item sides j) ll lj ls)))
+        (chunks-same _ _ (2 * s .parameters .compared) (λ l ll. ap (choose (bit mask l) []) (linked-is l j (item sides j) ll lj ls)))
 
-    full-are : (l : ℕ) → l < 2 * s .compared
-        → fullIn (s .modulus) (s .ballots) out (s .numbers) (s .keys) l (s .ballots) ≡ chunks (λ i. fullCommand l i (entryOpening (inputsOf s) l i)) (s .ballots)
+    full-are : (l : ℕ) → l < 2 * s .parameters .compared
+        → fullIn (s .parameters .modulus) (s .parameters .ballots) out (s .numbers) (s .keys) l (s .parameters .ballots) ≡ chunks (λ i. fullCommand l i (entryOpening (inputsOf s) l i)) (s .parameters .ballots)
     full-are l ll =
         let u = w .inputs .tests in
-        chunks-same _ _ (s .ballots) (λ i li. full-same l i _ _ (λ q lq. entry-opening-is s u (mixed-is s u r m) l i q ll li lq))
+        chunks-same _ _ (s .parameters .ballots) (λ i li. full-same l i _ _ (λ q lq. entry-opening-is s u (mixed-is s u r m) l i q ll li lq))
 
     pub part-is : {votes : List ℕ} → votes ≡ sort (s .votes)
-        → partIn (parametersFor s) dice mask sides votes positions rows out (s .numbers) (s .keys) ≡ thirdPart s dice mask sides
+        → partIn (s .parameters) dice mask sides votes positions rows out (s .numbers) (s .keys) ≡ thirdPart s dice mask sides
     unfolding thirdPart partThree postedDisclosure announced inputsOf
     part-is {votes} e =
-        let n = s .ballots in
+        let n = s .parameters .ballots in
         let sorted : votes ≡ sort (tabulate (item (s .votes)) n) = e ∙ ap sort (tabulate-of (s .votes) (item (s .votes)) n (w .inputs .tests .votes-long) (λ j lj. refl)) in
-        ap (λ (x : List ℕ). secondDiceCommand dice ++ (x ++ (votesIn votes n ++ (openedIn (parametersFor s) mask out (s .numbers) (s .keys) ++ (11 ∷ [])))))
+        ap (λ (x : List ℕ). secondDiceCommand dice ++ (x ++ (votesIn votes n ++ (openedIn (s .parameters) mask out (s .numbers) (s .keys) ++ (11 ∷ [])))))
         (chunks-same _ _ n halves-are)
-        ∙ ap₂ (λ (v x : List ℕ). secondDiceCommand dice ++ (chunks (halves (parametersFor s) mask (linkPosition (inputsOf s)) (postedDisclosure (inputsOf s) dice (item sides))) n ++ (votesIn v n ++ (x ++ (11 ∷ [])))))
-        sorted (chunks-same _ _ (2 * s .compared) (λ l ll. ap (λ (x : List ℕ). choose (bit mask l) x []) (full-are l ll)))
+        ∙ ap₂ (λ (v x : List ℕ). secondDiceCommand dice ++ (chunks (halves (s .parameters) mask (linkPosition (inputsOf s)) (postedDisclosure (inputsOf s) dice (item sides))) n ++ (votesIn v n ++ (x ++ (11 ∷ [])))))
+        sorted (chunks-same _ _ (2 * s .parameters .compared) (λ l ll. ap (λ (x : List ℕ). choose (bit mask l) x []) (full-are l ll)))

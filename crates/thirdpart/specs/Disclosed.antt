@@ -10,7 +10,7 @@ use Rattle.protocol.specs.Terms.{item}
 use Rattle.protocol.specs.Layout.{lists, partThreeLength}
 use Rattle.protocol.specs.Record.{secondDiceCommand, voteCommand}
 use Rattle.protocol.specs.Rules.{rightShape}
-use Rattle.protocol.specs.Inputs.{Slices, parametersFor, binarySides}
+use Rattle.protocol.specs.Inputs.{Slices, binarySides}
 use Rattle.lists.specs.Passed.{Passed}
 use Rattle.opened.specs.Opened.{openedIn}
 use Rattle.halves.specs.Halves.{halvesIn}
@@ -32,10 +32,10 @@ partIn p dice mask sides votes positions rows mixed numbers keys =
 pub record Writable (s : Slices) (dice : List ℕ) (mask : ℕ) (sides : List ℕ) (outLong : ℕ) : Type 0 where
   pub inputs : Passed s
   pub dice-long : length dice ≡ 30
-  pub shape : rightShape (s .compared) mask ≡ true
-  pub sides-long : length sides ≡ s .ballots
+  pub shape : rightShape (s .parameters .compared) mask ≡ true
+  pub sides-long : length sides ≡ s .parameters .ballots
   pub binary : binarySides s sides ≡ true
-  pub out-long : outLong ≡ partThreeLength (parametersFor s)
+  pub out-long : outLong ≡ partThreeLength (s .parameters)
 
 -- room for the sorted votes, for the places of all ballots, and for the rows of the ballots and of all lists, by their lengths
 pub record Room (p : Parameters) (sorted positions rows mixed : ℕ) : Type 0 where

@@ -5,7 +5,7 @@ ghost use Prim.Native.Nat.{_+_, _*_, _≤_};
 ghost use lib.ListN.{length};
 ghost use Rattle.laws.specs.Lent.{before, after};
 ghost use Rattle.laws.specs.Writing.{Went};
-ghost use Rattle.protocol.specs.Terms.{mostBallots};
+ghost use Rattle.protocol.specs.Terms.{parameters, mostBallots};
 ghost use Rattle.protocol.specs.Layout as places;
 ghost use Rattle.protocol.specs.Inputs.{given};
 ghost use Rattle.protocol.specs.Servers.{thirdPart};
@@ -91,8 +91,8 @@ fn write_in(
     mixed: &mut [u32],
     out: &mut [u8],
 )
-    requires { ⌜ Writable (given (p .modulus) (p .ballots) (p .compared) (now ids) (now votes) (now numbers) (now permutations) (now keys)) (now dice) mask (now sides) (length (now out)) × Room p (length (now sorted)) (length (now positions)) (length (now rows)) (length (now mixed)) ⌝ }
-    ensures { λ _. ⌜ after out ≡ thirdPart (given (p .modulus) (p .ballots) (p .compared) (before ids) (before votes) (before numbers) (before permutations) (before keys)) (before dice) mask (before sides) ⌝ }
+    requires { ⌜ Writable (given p (now ids) (now votes) (now numbers) (now permutations) (now keys)) (now dice) mask (now sides) (length (now out)) × Room p (length (now sorted)) (length (now positions)) (length (now rows)) (length (now mixed)) ⌝ }
+    ensures { λ _. ⌜ after out ≡ thirdPart (given p (before ids) (before votes) (before numbers) (before permutations) (before keys)) (before dice) mask (before sides) ⌝ }
 {
     let n = p.ballots;
     let lists = 2 * p.compared;
@@ -131,8 +131,8 @@ pub fn write(
     sides: &[u8],
     out: &mut [u8],
 )
-    requires { ⌜ Writable (given modulus ballots compared (now ids) (now votes) (now numbers) (now permutations) (now keys)) (now dice) mask (now sides) (length (now out)) ⌝ }
-    ensures { λ _. ⌜ after out ≡ thirdPart (given modulus ballots compared (before ids) (before votes) (before numbers) (before permutations) (before keys)) (before dice) mask (before sides) ⌝ }
+    requires { ⌜ Writable (given (parameters modulus ballots compared) (now ids) (now votes) (now numbers) (now permutations) (now keys)) (now dice) mask (now sides) (length (now out)) ⌝ }
+    ensures { λ _. ⌜ after out ≡ thirdPart (given (parameters modulus ballots compared) (before ids) (before votes) (before numbers) (before permutations) (before keys)) (before dice) mask (before sides) ⌝ }
 {
     let p = Parameters {
         modulus,

@@ -7,7 +7,9 @@ ghost use Rattle.laws.specs.Bytes.{bytes};
 ghost use Rattle.laws.specs.Chunks.{chunks};
 ghost use Rattle.laws.specs.Lent.{before, after};
 ghost use Rattle.laws.specs.Writing.{Went};
-ghost use Rattle.protocol.specs.Terms.{Place, inBallot, inEntry, commitment};
+ghost use Rattle.protocol.specs.declared.Place.{Place};
+ghost use Rattle.protocol.specs.declared.Place.the-variants.{InBallot, InEntry};
+ghost use Rattle.protocol.specs.Terms.{commitment};
 ghost use Rattle.protocol.specs.Tablet.{ballotCommand};
 ghost use Rattle.protocol.specs.Record.{firstCommand, entryCommand, firstDiceCommand, linkCommand, secondDiceCommand, ballotHalfCommand, listHalfCommand, voteCommand, fullCommand};
 ghost use Rattle.writers.specs.Splits.{slotNumber, slotOpening, SplitReady};
@@ -114,7 +116,7 @@ pub fn put_first(out: &mut [u8], at: usize, p: Parameters) -> usize
 // 02: a ballot.
 pub fn put_ballot(out: &mut [u8], at: usize, id: u32, s: Split, keys: &[u8]) -> usize
     requires { ⌜ SplitReady s × ((length (now keys) ≡ 192) × (at + 197 ≤ length (now out))) ⌝ }
-    ensures { λ r. ⌜ Went (before out) at (ballotCommand id (λ q. commitment (inBallot id q) (slotOpening s (before keys) q))) (after out) r ⌝ }
+    ensures { λ r. ⌜ Went (before out) at (ballotCommand id (λ q. commitment (InBallot id q) (slotOpening s (before keys) q))) (after out) r ⌝ }
 {
     let a = wire::put1(out, at, 2);
     let b = wire::put4(out, a, id);
@@ -124,7 +126,7 @@ pub fn put_ballot(out: &mut [u8], at: usize, id: u32, s: Split, keys: &[u8]) -> 
 // 03: a list entry.
 pub fn put_entry(out: &mut [u8], at: usize, l: u32, i: u32, s: Split, keys: &[u8]) -> usize
     requires { ⌜ SplitReady s × ((length (now keys) ≡ 192) × (at + 196 ≤ length (now out))) ⌝ }
-    ensures { λ r. ⌜ Went (before out) at (entryCommand l i (λ q. commitment (inEntry l i q) (slotOpening s (before keys) q))) (after out) r ⌝ }
+    ensures { λ r. ⌜ Went (before out) at (entryCommand l i (λ q. commitment (InEntry l i q) (slotOpening s (before keys) q))) (after out) r ⌝ }
 {
     let a = put_head(out, at, 3, l, i);
     put_six_commitments(out, a, s, keys)

@@ -30,8 +30,8 @@ put-ballot-requires c κs =
       c .before .before .before .ballot-split .ensures .1,
       (
         part-length (s .keys .now) (192 * j) 192 (omega arith),
-        room-even (ballotIn (s .modulus) (length (s .ids .now)) (s .ids .now) (s .rows .now) (s .numbers .now) (s .keys .now)) 197 j (length (s .ids .now))
-            (λ i l. ballot-wide (s .modulus) (length (s .ids .now)) (s .ids .now) (s .rows .now) (s .numbers .now) (s .keys .now) i) (c .before .before .before .before .before .loop .inv .1) (start .pre .1 .1) (omega arith),
+        room-even (ballotIn (s .parameters .modulus) (length (s .ids .now)) (s .ids .now) (s .rows .now) (s .numbers .now) (s .keys .now)) 197 j (length (s .ids .now))
+            (λ i l. ballot-wide (s .parameters .modulus) (length (s .ids .now)) (s .ids .now) (s .rows .now) (s .numbers .now) (s .keys .now) i) (c .before .before .before .before .before .loop .inv .1) (start .pre .1 .1) (omega arith),
       ),
     )
 
@@ -40,7 +40,7 @@ loop-again c =
     let s = c .before .before .before .before .before .before .before .before .before .before .before .before .before .before .args in
     let at = c .before .before .before .before .before .before .before .before .loop in (
       omega arith,
-      ballot-turn (s .modulus) (length (s .ids .now)) (s .ids .now) (s .rows .now) (s .numbers .now) (s .keys .now) (at .j) (at .inv .1) (c .before .before .before .before .before .before .ballot-split .ensures .0) (c .before .before .put-ballot .ensures),
+      ballot-turn (s .parameters .modulus) (length (s .ids .now)) (s .ids .now) (s .rows .now) (s .numbers .now) (s .keys .now) (at .j) (at .inv .1) (c .before .before .before .before .before .before .ballot-split .ensures .0) (c .before .before .put-ballot .ensures),
     )
 
 returns : tie.Need-returns Inv-loop μ-loop

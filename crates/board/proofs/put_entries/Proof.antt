@@ -29,8 +29,8 @@ put-entry-requires c κs =
       c .before .before .entry-split .ensures .1,
       (
         part-length (s .keys .now) (192 * s .n + 192 * (s .l * s .n + i)) 192 (omega arith),
-        room-even (entryIn (s .modulus) (s .n) (s .mixed .now) (s .numbers .now) (s .keys .now) (s .l)) 196 i (s .n)
-            (λ k l. entry-wide (s .modulus) (s .n) (s .mixed .now) (s .numbers .now) (s .keys .now) (s .l) k) (c .before .before .before .before .loop .inv .1) (start .pre .1 .1) (omega arith),
+        room-even (entryIn (s .parameters .modulus) (s .n) (s .mixed .now) (s .numbers .now) (s .keys .now) (s .l)) 196 i (s .n)
+            (λ k l. entry-wide (s .parameters .modulus) (s .n) (s .mixed .now) (s .numbers .now) (s .keys .now) (s .l) k) (c .before .before .before .before .loop .inv .1) (start .pre .1 .1) (omega arith),
       ),
     )
 
@@ -39,7 +39,7 @@ loop-again c =
     let s = c .before .before .before .before .before .before .before .before .before .before .before .before .args in
     let at = c .before .before .before .before .before .before .before .loop in (
       omega arith,
-      entry-turn (s .modulus) (s .n) (s .mixed .now) (s .numbers .now) (s .keys .now) (s .l) (at .i) (at .inv .1) (c .before .before .before .before .before .entry-split .ensures .0) (c .before .before .put-entry .ensures),
+      entry-turn (s .parameters .modulus) (s .n) (s .mixed .now) (s .numbers .now) (s .keys .now) (s .l) (at .i) (at .inv .1) (c .before .before .before .before .before .entry-split .ensures .0) (c .before .before .put-entry .ensures),
     )
 
 returns : tie.Need-returns Inv-loop μ-loop

@@ -13,7 +13,7 @@ use Rattle.comparison.proofs.put_if_compared.Tie as tie
 returns : tie.Need-returns
 returns c =
     let s = c .before .before .before .before .args in
-    go-same (start _ _ (omega arith)) (sym (choose-clear (bit (s .mask) (s .l)) [] (linksIn (s .modulus) (s .n) (s .positions .now) (s .numbers .now) (s .l) (s .n)) (c .if1 .taken)))
+    go-same (start _ _ (omega arith)) (sym (choose-clear (bit (s .mask) (s .l)) [] (linksIn (s .parameters .modulus) (s .n) (s .positions .now) (s .numbers .now) (s .l) (s .n)) (c .if1 .taken)))
 
 put-links-requires : tie.Need-put-links-requires
 put-links-requires c κs =
@@ -26,7 +26,7 @@ returns-2 : tie.Need-returns-2
 returns-2 c =
     let s = c .before .before .before .before .before .before .before .before .args in
     go-same (c .before .before .put-links .ensures)
-    (sym (choose-set (bit (s .mask) (s .l)) [] (linksIn (s .modulus) (s .n) (s .positions .now) (s .numbers .now) (s .l) (s .n)) (c .before .before .before .before .if1 .left)))
+    (sym (choose-set (bit (s .mask) (s .l)) [] (linksIn (s .parameters .modulus) (s .n) (s .positions .now) (s .numbers .now) (s .l) (s .n)) (c .before .before .before .before .if1 .left)))
 
 pub put-if-compared-spec : {M : Type 1} → statement M
 put-if-compared-spec =

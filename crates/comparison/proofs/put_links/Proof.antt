@@ -38,7 +38,7 @@ put-link-requires c κs =
     let g = c .before .before .before .before in
     let start = c .before .before .before .before .before .before .before .before in
     let s = start .args in
-    room-even (link (s .modulus) (s .n) (s .positions .now) (s .numbers .now) (s .l)) 10 (g .loop .j) (s .n) (λ i li. length-link _ _ _ _) (g .loop .inv .1) (start .pre .1 .1) (omega arith)
+    room-even (link (s .parameters .modulus) (s .n) (s .positions .now) (s .numbers .now) (s .l)) 10 (g .loop .j) (s .n) (λ i li. length-link _ _ _ _) (g .loop .inv .1) (start .pre .1 .1) (omega arith)
 
 loop-again : tie.Need-loop-again Inv-loop μ-loop
 loop-again c =
@@ -46,7 +46,7 @@ loop-again c =
     let s = c .before .before .before .before .before .before .before .before .before .before .before .args in
     let j = g .loop .j in (
       omega arith,
-      go-turn (link (s .modulus) (s .n) (s .positions .now) (s .numbers .now) (s .l)) j (g .loop .inv .1)
+      go-turn (link (s .parameters .modulus) (s .n) (s .positions .now) (s .numbers .now) (s .l)) j (g .loop .inv .1)
           (go-same (c .before .before .put-link .ensures) (ap (linkCommand (s .l) j (item (s .positions .now) (s .l * s .n + j))) (c .before .before .before .before .shift .ensures .0))),
     )
 

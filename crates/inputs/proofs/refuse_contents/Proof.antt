@@ -17,7 +17,7 @@ use Rattle.inputs.proofs.refuse_contents.Tie as tie
 abbrev slices : tie.Start → List ℕ → Slices
 slices c keys =
     let s = c .args in
-    given (s .modulus) (s .ballots) (s .compared) (s .ids .now) (s .votes .now) (s .numbers .now) (s .permutations .now) keys
+    given (s .parameters .modulus) (s .parameters .ballots) (s .parameters .compared) (s .ids .now) (s .votes .now) (s .numbers .now) (s .permutations .now) keys
 
 -- what is known behind tests 5 and 10
 rise : (c : tie.Else1) (keys : List ℕ) → idsRise (slices (c .before .before .before .before .before .before) keys) ≡ true

@@ -12,7 +12,7 @@ unfolding ballotSplit
 returns c =
     let s = c .before .before .before .before .before .before .args in
     let pre = c .before .before .before .before .before .before .pre in
-    let e = split-is (s .modulus) (s .n) (s .rows .now) 0 (s .j) (s .numbers .now) (ballotHalvesAt (s .j)) (s .j) (s .n + s .j) (2 * s .n + s .j) (c .three .result) (omega arith) (omega arith) (omega arith) (c .three .ensures) in
+    let e = split-is (s .parameters .modulus) (s .n) (s .rows .now) 0 (s .j) (s .numbers .now) (ballotHalvesAt (s .j)) (s .j) (s .n + s .j) (2 * s .n + s .j) (c .three .result) (omega arith) (omega arith) (omega arith) (c .three .ensures) in
     (e, rw e (ballot-split-ready (s .j) (pre .0) (pre .1)))
 
 pub ballot-split-spec : {M : Type 1} → statement M

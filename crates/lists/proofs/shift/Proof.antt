@@ -22,7 +22,7 @@ unfolding shiftIn
 returns c =
     let s = c .before .before .before .before .args in
     let second = c .before .three2 .ensures ∙ entry-three-is (s .numbers .now) (s .n) (s .l) (s .i) in (
-      c .link-shift .ensures .0 ∙ ap₂ (λ (x y : List ℕ). minus (s .modulus) (sumOfItems (s .modulus) x) (sumOfItems (s .modulus) y)) (c .before .before .three .ensures) second,
+      c .link-shift .ensures .0 ∙ ap₂ (λ (x y : List ℕ). minus (s .parameters .modulus) (sumOfItems (s .parameters .modulus) x) (sumOfItems (s .parameters .modulus) y)) (c .before .before .three .ensures) second,
       c .link-shift .ensures .1,
     )
 

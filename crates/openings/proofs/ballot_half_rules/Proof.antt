@@ -13,7 +13,7 @@ use Rattle.laws.specs.Faults.{rule, kept}
 use Rattle.laws.specs.Bytes.{number}
 use Rattle.laws.specs.Chunks.{piece}
 use Rattle.protocol.specs.declared.Parameters.{Parameters}
-use Rattle.protocol.specs.Terms.{inBallot}
+use Rattle.protocol.specs.declared.Place.the-variants.{InBallot}
 use Rattle.protocol.specs.Layout.{atBallot, atSecondDice, atBallotHalf}
 use Rattle.protocol.specs.Record.{idOf, ballotCommitmentOf, secondDiceOf, sideOf, ballotOpeningOf}
 use Rattle.protocol.specs.Drawing.{challenge, drawnSide}
@@ -28,7 +28,7 @@ use Rattle.openings.proofs.ballot_half_rules.Tie as tie
 
 module _ (p : Parameters) (r : List ℕ) (at : ℕ) (drawn : Bool) (j : ℕ) where
   abbrev posted : Bool
-  posted = every (λ k. gives (inBallot (idOf p r j) (2 * k + sideOf p r j)) (openingAt r (at + 4) k) (piece r (atBallot p j + 5 + 32 * (2 * k + sideOf p r j)) 32)) 3
+  posted = every (λ k. gives (InBallot (idOf p r j) (2 * k + sideOf p r j)) (openingAt r (at + 4) k) (piece r (atBallot p j + 5 + 32 * (2 * k + sideOf p r j)) 32)) 3
 
   abbrev from13 : ℕ
   from13 = rule 13 posted kept
@@ -68,7 +68,7 @@ given c =
     let p = s .args .p in
     let r = s .args .bytes .now in
     let j = s .args .j in
-    posted-at r (s .args .at + 4) (c .before .at-ballot .result + 5 + 32 * c .before .before .before .before .read1 .result) 64 3 (λ k. inBallot (idOf p r j) (2 * k + sideOf p r j)) (λ k. atBallot p j + 5 + 32 * (2 * k + sideOf p r j))
+    posted-at r (s .args .at + 4) (c .before .at-ballot .result + 5 + 32 * c .before .before .before .before .read1 .result) 64 3 (λ k. InBallot (idOf p r j) (2 * k + sideOf p r j)) (λ k. atBallot p j + 5 + 32 * (2 * k + sideOf p r j))
     (c .openings-give .ensures) (λ k. omega (arith, c .before .at-ballot .ensures .0, side-read (c .before .before .before .before)))
 
 -- ---- the rules that are left

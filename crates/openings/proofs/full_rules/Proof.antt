@@ -14,7 +14,8 @@ use Rattle.laws.specs.Bytes.{number}
 use Rattle.laws.specs.Chunks.{piece}
 use Rattle.laws.specs.Permuting.{permutes, permutes-same}
 use Rattle.protocol.specs.declared.Parameters.{Parameters}
-use Rattle.protocol.specs.Terms.{inEntry, sumOfSix}
+use Rattle.protocol.specs.declared.Place.the-variants.{InEntry}
+use Rattle.protocol.specs.Terms.{sumOfSix}
 use Rattle.protocol.specs.Layout.{atEntry}
 use Rattle.protocol.specs.Record.{entryCommitmentOf, voteOf, fullPlace, fullOpeningOf}
 use Rattle.protocol.specs.Rules.{numbersBelow, gives, fullRules}
@@ -34,7 +35,7 @@ module _ (p : Parameters) (r : List ℕ) (at l i : ℕ) where
   from16 = rule 16 (equal (i + 1) (p .ballots) implies permuted) kept
 
   abbrev posted : Bool
-  posted = every (λ q. gives (inEntry l i q) (openingAt r (at + 4) q) (piece r (atEntry p l i + 4 + 32 * q) 32)) 6
+  posted = every (λ q. gives (InEntry l i q) (openingAt r (at + 4) q) (piece r (atEntry p l i + 4 + 32 * q) 32)) 6
 
   abbrev from13 : ℕ
   from13 = rule 13 posted from16
@@ -72,7 +73,7 @@ given : (c : tie.After-openings-give) → (let s = c .before .before .before .be
 given c =
     let s = c .before .before .before .before .before .before .before .before .before in
     let at-entry = c .before .at-entry in
-    posted-at (s .args .bytes .now) (s .args .at + 4) (at-entry .result + 4) 32 6 (inEntry (s .args .l) (s .args .i)) (λ q. atEntry (s .args .p) (s .args .l) (s .args .i) + 4 + 32 * q) (c .openings-give .ensures) (λ q. omega (arith, at-entry .ensures .0))
+    posted-at (s .args .bytes .now) (s .args .at + 4) (at-entry .result + 4) 32 6 (InEntry (s .args .l) (s .args .i)) (λ q. atEntry (s .args .p) (s .args .l) (s .args .i) + 4 + 32 * q) (c .openings-give .ensures) (λ q. omega (arith, at-entry .ensures .0))
 
 past-openings : (c : tie.Else4) → (let s = c .before .before .before .before .before .before .before .before .before .before in all s ≡ from16 (s .args .p) (s .args .bytes .now) (s .args .at) (s .args .l) (s .args .i))
 past-openings c = goes-on 13 _ _ (past-numbers (c .before .before .before)) (sym (given (c .before)) ∙ not-false _ (c .if4 .left))

@@ -12,7 +12,8 @@ use Rattle.laws.specs.Faults.{rule, kept}
 use Rattle.laws.specs.Bytes.{number}
 use Rattle.laws.specs.Chunks.{piece}
 use Rattle.protocol.specs.declared.Parameters.{Parameters}
-use Rattle.protocol.specs.Terms.{inEntry, sumOfThree}
+use Rattle.protocol.specs.declared.Place.the-variants.{InEntry}
+use Rattle.protocol.specs.Terms.{sumOfThree}
 use Rattle.protocol.specs.Layout.{atEntry, atLink, atBallotHalf}
 use Rattle.protocol.specs.Record.{entryCommitmentOf, linkPlace, positionOf, shiftOf, sideOf, ballotOpeningOf, listHalfPlace, listOpeningOf}
 use Rattle.protocol.specs.Rules.{numbersBelow, gives, agrees, listHalfRules}
@@ -32,7 +33,7 @@ module _ (p : Parameters) (r : List ℕ) (at l j : ℕ) where
   from14 = rule 14 agreed kept
 
   abbrev posted : Bool
-  posted = every (λ k. gives (inEntry l (positionOf p r l j) (2 * k + sideOf p r j)) (openingAt r (at + 4) k) (piece r (atEntry p l (positionOf p r l j) + 4 + 32 * (2 * k + sideOf p r j)) 32)) 3
+  posted = every (λ k. gives (InEntry l (positionOf p r l j) (2 * k + sideOf p r j)) (openingAt r (at + 4) k) (piece r (atEntry p l (positionOf p r l j) + 4 + 32 * (2 * k + sideOf p r j)) 32)) 3
 
   abbrev from13 : ℕ
   from13 = rule 13 posted from14
@@ -98,7 +99,7 @@ given c =
     let r = s .args .bytes .now in
     let position = positionOf p r (s .args .l) (s .args .j) in
     let side = sideOf p r (s .args .j) in
-    posted-at r (s .args .at + 4) (c .before .at-entry .result + 4 + 32 * c .before .before .read12 .result) 64 3 (λ k. inEntry (s .args .l) position (2 * k + side)) (λ k. atEntry p (s .args .l) position + 4 + 32 * (2 * k + side))
+    posted-at r (s .args .at + 4) (c .before .at-entry .result + 4 + 32 * c .before .before .read12 .result) 64 3 (λ k. InEntry (s .args .l) position (2 * k + side)) (λ k. atEntry p (s .args .l) position + 4 + 32 * (2 * k + side))
     (c .openings-give .ensures) (λ k. omega (arith, entry-read (c .before), side-read (c .before .before)))
 
 -- ---- the rules that are left

@@ -8,7 +8,7 @@ use lib.ListN.{length}
 use borrow.Author.Tests.{not-true, not-false}
 use Rattle.laws.specs.Tests.{every, every-more, every-stop}
 use Rattle.laws.specs.Chunks.{piece}
-use Rattle.protocol.specs.Terms.{Place}
+use Rattle.protocol.specs.declared.Place.{Place}
 use Rattle.protocol.specs.Rules.{gives}
 use Rattle.openings.specs.Opened.{openingAt}
 use Rattle.openings.proofs.openings_give.Statement.{statement}

@@ -14,10 +14,10 @@ use Rattle.refusals.proofs.draw.Statement.{statement}
 use Rattle.refusals.proofs.draw.Tie as tie
 
 abbrev lengths : tie.Start → Bool
-lengths c = let s = c .args in equal (length (s .dice .now)) 30 and equal (s .one-len) (partOneLength (record { modulus = s .modulus; ballots = s .ballots; compared = s .compared }))
+lengths c = let s = c .args in equal (length (s .dice .now)) 30 and equal (s .one-len) (partOneLength (record { modulus = s .parameters .modulus; ballots = s .parameters .ballots; compared = s .parameters .compared }))
 
 -- lengths matter only within the limits
-first : (c : tie.After-refuse-lengths) → let s = c .before .before .before .before .args in c .refuse-lengths .result ≡ rule 3 (inLimits (s .modulus) (s .ballots) (s .compared)) (rule 18 (lengths (c .before .before .before .before)) kept)
+first : (c : tie.After-refuse-lengths) → let s = c .before .before .before .before .args in c .refuse-lengths .result ≡ rule 3 (inLimits (s .parameters .modulus) (s .parameters .ballots) (s .parameters .compared)) (rule 18 (lengths (c .before .before .before .before)) kept)
 first c =
     c .refuse-lengths .ensures
     ∙ rule-alike 3 _ (λ e.

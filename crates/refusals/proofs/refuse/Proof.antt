@@ -15,10 +15,10 @@ use Rattle.refusals.proofs.refuse.Tie as tie
 abbrev slices : tie.Start → Slices
 slices c =
     let s = c .args in
-    given (s .modulus) (s .ballots) (s .compared) (s .ids .now) (s .votes .now) (s .numbers .now) (s .permutations .now) (s .keys .now)
+    given (s .parameters .modulus) (s .parameters .ballots) (s .parameters .compared) (s .ids .now) (s .votes .now) (s .numbers .now) (s .permutations .now) (s .keys .now)
 
 -- what is known behind the limits and the lengths that are given
-behind : (c : tie.Else1) → let s = c .before .before .before .before .before .before .before .args in (inLimits (s .modulus) (s .ballots) (s .compared) ≡ true) × (s .lengths ≡ true)
+behind : (c : tie.Else1) → let s = c .before .before .before .before .before .before .before .args in (inLimits (s .parameters .modulus) (s .parameters .ballots) (s .parameters .compared) ≡ true) × (s .lengths ≡ true)
 behind c = begun _ _ (c .before .refuse-lengths .ensures) (omega arith)
 
 due : (c : tie.Else2) → dueLengths (slices (c .before .before .before .before .before .before .before .before .before)) ≡ true

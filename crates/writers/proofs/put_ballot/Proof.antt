@@ -3,7 +3,7 @@ use native.Mathlib.Omega.{arith}
 use borrow.Author.Needs.{needs}
 use Rattle.laws.specs.Bytes.{length-bytes}
 use Rattle.laws.specs.Writing.{go-on}
-use Rattle.protocol.specs.Terms.{inBallot}
+use Rattle.protocol.specs.declared.Place.the-variants.{InBallot}
 use Rattle.protocol.specs.Tablet.{ballotCommand}
 use Rattle.writers.proofs.Operands.{coded}
 use Rattle.writers.proofs.put_ballot.Statement.{statement}
@@ -19,7 +19,7 @@ put-six-commitments-requires c κs =
 
 returns : tie.Need-returns
 unfolding ballotCommand
-returns c = go-on (coded 2 (omega arith) (c .before .before .before .before .before .before .before .before .before .before .put1 .ensures) (c .before .before .before .before .before .before .put4 .ensures)) (c .before .before .put-six-commitments .ensures (inBallot (c .before .before .before .before .before .before .before .before .before .before .before .before .before .before .args .id)))
+returns c = go-on (coded 2 (omega arith) (c .before .before .before .before .before .before .before .before .before .before .put1 .ensures) (c .before .before .before .before .before .before .put4 .ensures)) (c .before .before .put-six-commitments .ensures (InBallot (c .before .before .before .before .before .before .before .before .before .before .before .before .before .before .args .id)))
 
 pub put-ballot-spec : {M : Type 1} → statement M
 put-ballot-spec =

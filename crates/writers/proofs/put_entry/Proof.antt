@@ -2,7 +2,7 @@
 use native.Mathlib.Omega.{arith}
 use borrow.Author.Needs.{needs}
 use Rattle.laws.specs.Writing.{go-on}
-use Rattle.protocol.specs.Terms.{inEntry}
+use Rattle.protocol.specs.declared.Place.the-variants.{InEntry}
 use Rattle.protocol.specs.Record.{entryCommand}
 use Rattle.writers.proofs.Operands.{after-head}
 use Rattle.writers.proofs.put_entry.Statement.{statement}
@@ -15,7 +15,7 @@ put-six-commitments-requires c κs =
 
 returns : tie.Need-returns
 unfolding entryCommand
-returns c = go-on (c .before .before .before .before .before .before .put-head .ensures) (c .before .before .put-six-commitments .ensures (inEntry (c .before .before .before .before .before .before .before .before .before .before .args .l) (c .before .before .before .before .before .before .before .before .before .before .args .i)))
+returns c = go-on (c .before .before .before .before .before .before .put-head .ensures) (c .before .before .put-six-commitments .ensures (InEntry (c .before .before .before .before .before .before .before .before .before .before .args .l) (c .before .before .before .before .before .before .before .before .before .before .args .i)))
 
 pub put-entry-spec : {M : Type 1} → statement M
 put-entry-spec =

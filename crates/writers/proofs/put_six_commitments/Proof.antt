@@ -5,7 +5,9 @@ use native.Mathlib.Omega.{arith}
 use borrow.Author.Needs.{needs}
 use Rattle.laws.specs.Chunks.{chunks}
 use Rattle.laws.specs.Writing.{Went, start, go-turn, go-same}
-use Rattle.protocol.specs.Terms.{Place, inBallot, commitment}
+use Rattle.protocol.specs.declared.Place.{Place}
+use Rattle.protocol.specs.declared.Place.the-variants.{InBallot}
+use Rattle.protocol.specs.Terms.{commitment}
 use Rattle.protocol.proofs.Honesty.{length-commitment}
 use Rattle.writers.specs.Splits.{slotOpening}
 use Rattle.writers.proofs.Operands.{room-even}
@@ -31,7 +33,7 @@ put-commitment-requires c κs =
     let keys = c .before .before .before .before .before .before .before .args .keys .now in
     let q = g .loop .q in (
       search needs,
-      room-even (λ q. commitment (inBallot 0 q) (slotOpening (c .before .before .before .before .before .before .before .args .s) keys q)) 32 q 6 (λ i l. length-commitment _ _) (g .loop .inv .1 (inBallot 0)) (omega arith) (omega arith),
+      room-even (λ q. commitment (InBallot 0 q) (slotOpening (c .before .before .before .before .before .before .before .args .s) keys q)) 32 q 6 (λ i l. length-commitment _ _) (g .loop .inv .1 (InBallot 0)) (omega arith) (omega arith),
     )
 
 loop-again : tie.Need-loop-again Inv-loop μ-loop
@@ -47,7 +49,7 @@ loop-again c =
     )
 
 same-length : tie.Need-same-length Inv-loop μ-loop
-same-length c = omega (arith, c .before .loop .inv .1 (inBallot 0) .wrote .long)
+same-length c = omega (arith, c .before .loop .inv .1 (InBallot 0) .wrote .long)
 
 returns : tie.Need-returns Inv-loop μ-loop
 returns c =
