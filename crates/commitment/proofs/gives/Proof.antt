@@ -17,7 +17,7 @@ slice-aggregate-same-bytes c = omega (arith, ap length (c .before .sha3-256 .ens
 
 returns : tie.Need-returns
 unfolding gives commitment
-returns c place =
+returns c =
     let args = c .before .before .before .before .before .before .before .args in
     c .same-bytes .ensures
     ∙ ap₂ same

@@ -18,7 +18,7 @@ absorb-requires c κs = (search needs, rw (c .start .ensures) (omega arith))
 
 returns : tie.Need-returns
 unfolding commitment opening sha3-256
-returns c place =
+returns c =
     let finish = c .before .before in
     let absorb2 = finish .before .before in
     let absorb = absorb2 .before .before in
