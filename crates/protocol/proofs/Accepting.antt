@@ -12,7 +12,7 @@ use Rattle.laws.specs.Permutations.{Perm, perm-of}
 use Rattle.laws.specs.Tests.{never}
 use Rattle.protocol.specs.declared.Due.{Due}
 use Rattle.protocol.specs.declared.Due.the-variants.{First, Ballot, Entry, FirstDice, Link, SecondDice, BallotHalf, ListHalf, Vote, FullOpening, End}
-use Rattle.protocol.specs.declared.Verdict.the-variants.{Accepted}
+use Rattle.protocol.specs.Answers.{accepted}
 use Rattle.protocol.specs.Terms.{item}
 use Rattle.protocol.specs.Layout.{code, width, lists, atEnd, recordLength}
 use Rattle.protocol.specs.Record.{parametersOf, maskOf, positionOf, shiftOf, sideOf, boardOf, comparisonOf, disclosureOf}
@@ -234,13 +234,13 @@ module _ (drawn : Bool) (r : List ℕ) (s : Stands r) (are : drawn ≡ true → 
 
 -- ---- both ways
 
-pub accepts-iff : (r : List ℕ) → (judged false r ≡ Accepted) ↔ Stands r
+pub accepts-iff : (r : List ℕ) → (judged false r ≡ accepted) ↔ Stands r
 accepts-iff r = (
   λ e. let k = accepted-iff false r .0 e in record { laid = laid false r k; valid = valid false r k },
   λ s. accepted-iff false r .1 (faultless false r s (λ e. absurd (never e refl))),
 )
 
-pub accepts-drawn-iff : (r : List ℕ) → (judged true r ≡ Accepted) ↔ (Stands r × Drawn (parametersOf r) r)
+pub accepts-drawn-iff : (r : List ℕ) → (judged true r ≡ accepted) ↔ (Stands r × Drawn (parametersOf r) r)
 accepts-drawn-iff r = (
   λ e. let k = accepted-iff true r .0 e in (record { laid = laid true r k; valid = valid true r k }, are-drawn true r k refl),
   λ t. accepted-iff true r .1 (faultless true r (t .0) (λ e. t .1)),

@@ -9,7 +9,7 @@ use Rattle.laws.specs.Bytes.{Below}
 use Rattle.laws.specs.Faults.{rules}
 use Rattle.laws.specs.Sorting.{sort, length-sort}
 use Rattle.laws.specs.Tables.{tabulate, tabulate-of}
-use Rattle.protocol.specs.declared.Verdict.the-variants.{Accepted}
+use Rattle.protocol.specs.Answers.{accepted}
 use Rattle.protocol.specs.Terms.{item}
 use Rattle.protocol.specs.Record.{Board, Comparison, Disclosure, encoding}
 use Rattle.protocol.specs.Drawing.{challenge, drawnMask, drawnSide}
@@ -68,7 +68,7 @@ module _ (s : Slices) (g : Good (inputsOf s)) (dice₁ : List ℕ) (mask : ℕ) 
   unfolding board comparison disclosure
   written-stands = rw is-encoding (stands board comparison disclosure fits (honest-valid (inputsOf s) g choice))
 
-  pub written-accepted : judged false (written s dice₁ mask dice₂ sides) ≡ Accepted
+  pub written-accepted : judged false (written s dice₁ mask dice₂ sides) ≡ accepted
   written-accepted = accepts-iff (written s dice₁ mask dice₂ sides) .1 written-stands
 
   sorted-whole : (l : List ℕ) (n : ℕ) → length l ≡ n → tabulate (item l) n ≡ l
@@ -97,7 +97,7 @@ module _ (s : Slices) (g : Good (inputsOf s)) (dice₁ : List ℕ) (mask : ℕ) 
   }
 
   written-drawn : mask ≡ maskFor s dice₁ (firstPart s) → sides ≡ sidesFor s dice₂ (firstPart s) (secondPart s dice₁ mask)
-      → judged true (written s dice₁ mask dice₂ sides) ≡ Accepted
+      → judged true (written s dice₁ mask dice₂ sides) ≡ accepted
   written-drawn em es = accepts-drawn-iff (written s dice₁ mask dice₂ sides) .1 (written-stands, rw is-encoding (rw (read-parameters board comparison disclosure fits) (are-drawn em es)))
 
 -- ---- the three calls
@@ -151,7 +151,7 @@ module _ (s : Slices) where
     good = good-inputs s (unrefused s _ _ _ _ (h .one .1)) ids
 
     -- the record is accepted, and announces the votes cast, smallest first
-    pub complete : (judged false (electionRecord s byMask dice₁ bySides dice₂) ≡ Accepted) × (announcedVotes (electionRecord s byMask dice₁ bySides dice₂) ≡ sort (s .votes))
+    pub complete : (judged false (electionRecord s byMask dice₁ bySides dice₂) ≡ accepted) × (announcedVotes (electionRecord s byMask dice₁ bySides dice₂) ≡ sort (s .votes))
     unfolding electionRecord electionTwo electionThree written
     complete = (
       written-accepted s good dice₁ (electionMask s byMask dice₁) dice₂ (electionSides s byMask dice₁ bySides dice₂) taken,
@@ -159,7 +159,7 @@ module _ (s : Slices) where
     )
 
   -- where mask and sides are drawn, drawn judging accepts it too
-  pub complete-drawn : (dice₁ dice₂ : List ℕ) → Below 4294967296 (s .ids) → Unrefusing s drawn dice₁ drawn dice₂ → judged true (electionRecord s drawn dice₁ drawn dice₂) ≡ Accepted
+  pub complete-drawn : (dice₁ dice₂ : List ℕ) → Below 4294967296 (s .ids) → Unrefusing s drawn dice₁ drawn dice₂ → judged true (electionRecord s drawn dice₁ drawn dice₂) ≡ accepted
   unfolding electionRecord electionTwo electionThree electionSides electionMask maskBy sidesBy written
   complete-drawn dice₁ dice₂ ids h =
       written-drawn s (good drawn dice₁ drawn dice₂ ids h) dice₁ (electionMask s drawn dice₁) dice₂ (electionSides s drawn dice₁ drawn dice₂) (taken drawn dice₁ drawn dice₂ ids h) refl refl

@@ -2,7 +2,7 @@
 use mathlib.Core.Path.{_≡_, refl, ap}
 use mathlib.Core.Logic.{_↔_, _≢_}
 use mathlib.Core.Bool.{Bool}
-use mathlib.Core.List.{List}
+use mathlib.Core.List.{List, []}
 use Prim.Native.Nat.{ℕ, zero, suc, _≤_, _<_}
 use native.Mathlib.Omega.{arith}
 use lib.ListN.{length}
@@ -11,11 +11,11 @@ use Rattle.laws.specs.Faults.{numberOf, rules, Numbered, numbered}
 use Rattle.laws.specs.Masks.{bit}
 use Rattle.protocol.specs.declared.Parameters.{Parameters}
 use Rattle.protocol.specs.declared.Due.the-variants.{First, Ballot, Entry, FirstDice, Link, SecondDice, BallotHalf, ListHalf, Vote, FullOpening, End}
-use Rattle.protocol.specs.declared.Verdict.the-variants.{Accepted}
+use Rattle.protocol.specs.Answers.{answerOf, accepted}
 use Rattle.protocol.specs.Layout.{lists, recordLength}
 use Rattle.protocol.specs.Record.{parametersOf, maskOf}
 use Rattle.protocol.specs.Rules.{fault}
-use Rattle.protocol.specs.Judging.{found, ifCompared, ifOpened, ballotFaults, entryFaults, linkFaults, listHalfFaults, halfFaults, voteFaults, fullFaults, trailingFault, partOneFaults, partTwoFaults, partThreeFaults, firstFault, verdictOf, judged}
+use Rattle.protocol.specs.Judging.{found, ifCompared, ifOpened, ballotFaults, entryFaults, linkFaults, listHalfFaults, halfFaults, voteFaults, fullFaults, trailingFault, partOneFaults, partTwoFaults, partThreeFaults, firstFault, judged}
 
 -- no command has a fault, and no byte follows the last
 pub record Faultless (drawn : Bool) (p : Parameters) (r : List ℕ) : Type 0 where
@@ -58,17 +58,17 @@ module _ (drawn : Bool) (r : List ℕ) where
   unfolding firstFault partOneFaults partTwoFaults partThreeFaults ballotFaults entryFaults linkFaults listHalfFaults halfFaults voteFaults fullFaults trailingFault ifCompared ifOpened found
   fault-numbered = search numbered depth 12
 
-  verdict-accepted : (k : ℕ) → (verdictOf k ≡ Accepted) ↔ (k ≡ 0)
-  unfolding verdictOf
-  verdict-accepted zero = (λ e. refl, λ e. refl)
-  verdict-accepted (suc k) = (λ e. cc, λ e. absurd (omega arith))
+  none-broken : (k : ℕ) → (answerOf k [] ≡ accepted) ↔ (k ≡ 0)
+  unfolding answerOf
+  none-broken zero = (λ e. refl, λ e. refl)
+  none-broken (suc k) = (λ e. cc, λ e. absurd (omega arith))
 
-  pub accepted-nothing : (judged drawn r ≡ Accepted) ↔ (firstFault drawn r ≡ Nothing)
+  pub accepted-nothing : (judged drawn r ≡ accepted) ↔ (firstFault drawn r ≡ Nothing)
   unfolding judged numberOf
   accepted-nothing = (
-    λ e. fault-numbered .nothing (verdict-accepted (numberOf (firstFault drawn r)) .0 e),
-    λ e. verdict-accepted (numberOf (firstFault drawn r)) .1 (ap numberOf e),
+    λ e. fault-numbered .nothing (none-broken (numberOf (firstFault drawn r)) .0 e),
+    λ e. none-broken (numberOf (firstFault drawn r)) .1 (ap numberOf e),
   )
 
-  pub accepted-iff : (judged drawn r ≡ Accepted) ↔ Faultless drawn (parametersOf r) r
+  pub accepted-iff : (judged drawn r ≡ accepted) ↔ Faultless drawn (parametersOf r) r
   accepted-iff = (λ e. faultless-iff .0 (accepted-nothing .0 e), λ k. accepted-nothing .1 (faultless-iff .1 k))

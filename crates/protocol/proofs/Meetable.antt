@@ -13,7 +13,7 @@ use lib.Pow.{pow-mono, shl-lt, pow-pos}
 use Rattle.laws.specs.Bytes.{Below}
 use Rattle.laws.specs.Tests.{equal, differ, below, atMost, _and_, _or_, every}
 use Rattle.laws.specs.Faults.{rule}
-use Rattle.protocol.specs.declared.Verdict.the-variants.{Accepted}
+use Rattle.protocol.specs.Answers.{accepted}
 use Rattle.protocol.specs.Terms.{parameters, inLimits, modulusInLimits, ballotsInLimits, listsInLimits, allBelow}
 use Rattle.protocol.specs.Columns.{isPermutation}
 use Rattle.protocol.specs.Record.{Board, Comparison, Disclosure, encoding}
@@ -32,7 +32,7 @@ use Rattle.protocol.proofs.Completeness.{Taken, written, board, compari
 -- ---- three records of one board, two comparisons and opposite sides
 
 met : (b : Board) (k k₃ : Comparison) (d₁ d₂ d₃ : Disclosure) → Fits b k d₁ → Fits b k d₂ → Fits b k₃ d₃
-    → judged false (encoding b k d₁) ≡ Accepted → judged false (encoding b k d₂) ≡ Accepted → judged false (encoding b k₃ d₃) ≡ Accepted
+    → judged false (encoding b k d₁) ≡ accepted → judged false (encoding b k d₂) ≡ accepted → judged false (encoding b k₃ d₃) ≡ accepted
     → ((j : ℕ) → j < b .parameters .ballots → d₁ .side j ≢ d₂ .side j) → k .mask ≢ k₃ .mask
     → Triple (encoding b k d₁) (encoding b k d₂) (encoding b k₃ d₃)
 met b k k₃ d₁ d₂ d₃ f₁ f₂ f₃ a₁ a₂ a₃ sides masks = record {

@@ -1,7 +1,7 @@
 -- Document 01: "An answer may be an enum. If so, a definition gives this paper's number and values for each of the enum's cases, and the
--- promises use that definition." What each case is in numbers: the rule that a refusal names, 0 where none is broken. The promises name the
--- answer of a number (`verdictOf` and the like).
-use Prim.Native.Nat.{ℕ}
+-- promises use that definition."
+use mathlib.Core.List.{List, [], _∷_}
+use Prim.Native.Nat.{ℕ, zero, suc}
 use Rattle.protocol.specs.declared.Verdict.{Verdict}
 use Rattle.protocol.specs.declared.Verdict.the-variants as verdict
 use Rattle.protocol.specs.declared.Written.{Written}
@@ -13,24 +13,50 @@ use Rattle.protocol.specs.declared.Tally.the-variants as tally
 use Rattle.protocol.specs.declared.Draw.{Draw}
 use Rattle.protocol.specs.declared.Draw.the-variants as draw
 
-abbrev pub verdictNumber : Verdict → ℕ
-verdictNumber verdict.Accepted = 0
-verdictNumber (verdict.Refused k) = k
+-- what is asked for, with its values; or "A refusal yields its number and nothing else"
+pub data Answer : Type 0 where
+  done : (values : List ℕ) → Answer
+  refused : (number : ℕ) → Answer
 
-abbrev pub writtenNumber : Written → ℕ
-writtenNumber written.Done = 0
-writtenNumber (written.Refused k) = k
+-- the answer where k is the number of the first rule broken, 0 for none
+unfoldable pub answerOf : ℕ → List ℕ → Answer
+answerOf zero values = done values
+answerOf (suc k) values = refused (suc k)
 
-abbrev pub receiptNumber : Receipt → ℕ
-receiptNumber receipt.AsPrinted = 0
-receiptNumber receipt.Otherwise = 0
-receiptNumber receipt.NotPosted = 0
-receiptNumber (receipt.Refused k) = k
+-- ---- for each of the enums' cases
 
-abbrev pub tallyNumber : Tally → ℕ
-tallyNumber (tally.Pairs k) = 0
-tallyNumber (tally.Refused k) = k
+abbrev pub accepted : Answer
+accepted = done []
 
-abbrev pub drawNumber : Draw → ℕ
-drawNumber (draw.Mask mask) = 0
-drawNumber (draw.Refused k) = k
+abbrev pub verdictAnswer : Verdict → Answer
+verdictAnswer verdict.Accepted = accepted
+verdictAnswer (verdict.Refused k) = refused k
+
+abbrev pub writtenAnswer : Written → Answer
+writtenAnswer written.Done = done []
+writtenAnswer (written.Refused k) = refused k
+
+-- "posted as printed, posted otherwise (the id is there, the hash differs), or not posted (no such id)"
+abbrev pub asPrinted : List ℕ
+asPrinted = 0 ∷ []
+
+abbrev pub otherwise : List ℕ
+otherwise = 1 ∷ []
+
+abbrev pub notPosted : List ℕ
+notPosted = 2 ∷ []
+
+abbrev pub receiptAnswer : Receipt → Answer
+receiptAnswer receipt.AsPrinted = done asPrinted
+receiptAnswer receipt.Otherwise = done otherwise
+receiptAnswer receipt.NotPosted = done notPosted
+receiptAnswer (receipt.Refused k) = refused k
+
+-- how many pairs were written
+abbrev pub tallyAnswer : Tally → Answer
+tallyAnswer (tally.Pairs pairs) = done (pairs ∷ [])
+tallyAnswer (tally.Refused k) = refused k
+
+abbrev pub drawAnswer : Draw → Answer
+drawAnswer (draw.Mask mask) = done (mask ∷ [])
+drawAnswer (draw.Refused k) = refused k

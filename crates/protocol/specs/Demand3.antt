@@ -8,7 +8,7 @@ use Prim.Native.Nat.{ℕ, _+_, _*_, _%_, _<_}
 use lib.ListN.{take}
 use Rattle.laws.specs.Masks.{bit}
 use Rattle.laws.specs.Sums.{times}
-use Rattle.protocol.specs.declared.Verdict.the-variants.{Accepted}
+use Rattle.protocol.specs.Answers.{accepted}
 use Rattle.protocol.specs.declared.Place.{Place}
 use Rattle.protocol.specs.declared.Place.the-variants.{InBallot, InEntry}
 use Rattle.protocol.specs.Terms.{opened, commitment}
@@ -24,9 +24,9 @@ beforeSecondDice r = take (atSecondDice (parametersOf r)) r
 
 -- three records: the pair r₁ and r₂, and the third
 pub record Triple (r₁ r₂ r₃ : List ℕ) : Type 0 where
-  pub accepted₁ : judged false r₁ ≡ Accepted
-  pub accepted₂ : judged false r₂ ≡ Accepted
-  pub accepted₃ : judged false r₃ ≡ Accepted
+  pub accepted₁ : judged false r₁ ≡ accepted
+  pub accepted₂ : judged false r₂ ≡ accepted
+  pub accepted₃ : judged false r₃ ≡ accepted
   -- "have the same bytes before command 04"
   pub alike₂ : beforeFirstDice r₁ ≡ beforeFirstDice r₂
   pub alike₃ : beforeFirstDice r₁ ≡ beforeFirstDice r₃

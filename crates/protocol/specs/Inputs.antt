@@ -7,8 +7,6 @@ use Rattle.laws.specs.Tests.{equal, below, atMost, _and_, _or_, every}
 use Rattle.laws.specs.Faults.{rule, kept}
 use Rattle.laws.specs.Chunks.{piece}
 use Rattle.protocol.specs.declared.Parameters.{Parameters}
-use Rattle.protocol.specs.declared.Written.{Written}
-use Rattle.protocol.specs.declared.Written.the-variants.{Done, Refused}
 use Rattle.protocol.specs.Terms.{item, allBelow, inLimits}
 use Rattle.protocol.specs.Columns.{isPermutation}
 use Rattle.protocol.specs.Layout.{lists, partOneLength, partTwoLength, partThreeLength}
@@ -141,11 +139,6 @@ module _ (s : Slices) where
       (equal (length dice) 30 and equal oneLong (partOneLength (s .parameters)) and equal twoLong (partTwoLength (s .parameters))
       and equal outLong (partThreeLength (s .parameters)))
       (fairDice dice) (rightShape (s .parameters .compared) mask) true
-
--- the answer that a number is
-unfoldable pub writtenOf : ℕ → Written
-writtenOf zero = Done
-writtenOf (suc k) = Refused (suc k)
 
 -- "A refusal yields its number and nothing else, and no lent byte changes.": what an output holds at return
 unfoldable pub afterwards : ℕ → List ℕ → List ℕ → List ℕ

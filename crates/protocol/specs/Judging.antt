@@ -1,7 +1,7 @@
 -- Document 01, "What is refused": "The judge goes command by command; the first faulty one decides."
 use mathlib.Core.Bool.{Bool}
-use mathlib.Core.List.{List}
-use Prim.Native.Nat.{ℕ, zero, suc}
+use mathlib.Core.List.{List, []}
+use Prim.Native.Nat.{ℕ}
 use lib.ListN.{length}
 use Rattle.laws.specs.declared.Found.{Found}
 use Rattle.laws.specs.declared.Found.the-variants.{Nothing}
@@ -11,8 +11,7 @@ use Rattle.laws.specs.Masks.{bit}
 use Rattle.protocol.specs.declared.Parameters.{Parameters}
 use Rattle.protocol.specs.declared.Due.{Due}
 use Rattle.protocol.specs.declared.Due.the-variants.{First, Ballot, Entry, FirstDice, Link, SecondDice, BallotHalf, ListHalf, Vote, FullOpening, End}
-use Rattle.protocol.specs.declared.Verdict.{Verdict}
-use Rattle.protocol.specs.declared.Verdict.the-variants.{Accepted, Refused}
+use Rattle.protocol.specs.Answers.{Answer, answerOf}
 use Rattle.protocol.specs.Layout.{lists, recordLength}
 use Rattle.protocol.specs.Record.{parametersOf, maskOf}
 use Rattle.protocol.specs.Rules.{placeOf, fault}
@@ -74,10 +73,6 @@ firstFault drawn r =
     let p = parametersOf r in
     found drawn p r First then (partOneFaults drawn p r then (partTwoFaults drawn p r then partThreeFaults drawn p r))
 
--- the verdict that a number is: none broken is accepted
-unfoldable pub verdictOf : ℕ → Verdict
-verdictOf zero = Accepted
-verdictOf (suc k) = Refused (suc k)
-
-unfoldable pub judged : Bool → List ℕ → Verdict
-judged drawn r = verdictOf (numberOf (firstFault drawn r))
+-- accepted, or refused by the number of the first rule broken
+unfoldable pub judged : Bool → List ℕ → Answer
+judged drawn r = answerOf (numberOf (firstFault drawn r)) []

@@ -13,12 +13,7 @@ use Rattle.laws.specs.Chunks.{piece, chunks}
 use Rattle.sha3.specs.Sha3.{sha3-224}
 use Rattle.protocol.specs.declared.Parameters.{Parameters}
 use Rattle.protocol.specs.declared.Due.the-variants.{First}
-use Rattle.protocol.specs.declared.Receipt.{Receipt}
-use Rattle.protocol.specs.declared.Receipt.the-variants.{AsPrinted, Otherwise, NotPosted, Refused as receiptRefused}
-use Rattle.protocol.specs.declared.Tally.{Tally}
-use Rattle.protocol.specs.declared.Tally.the-variants.{Pairs, Refused as tallyRefused}
-use Rattle.protocol.specs.declared.Draw.{Draw}
-use Rattle.protocol.specs.declared.Draw.the-variants.{Mask, Refused as drawRefused}
+use Rattle.protocol.specs.Answers.{Answer, answerOf, asPrinted, otherwise, notPosted}
 use Rattle.protocol.specs.Terms.{item, inLimits, decimal}
 use Rattle.protocol.specs.Layout.{atBallot, partOneLength}
 use Rattle.protocol.specs.Record.{parametersOf, idOf, voteOf}
@@ -30,12 +25,12 @@ use Rattle.protocol.specs.Judging.{found, ballotFaults, firstFault}
 
 module _ (p : Parameters) (r : List ℕ) (printed : List ℕ) where
   -- of the ballot with the printed id: "posted as printed, posted otherwise (the id is there, the hash differs)"
-  unfoldable pub receiptAt : ℕ → Receipt
-  receiptAt j = pick (same (piece printed 4 28) (sha3-224 (piece r (atBallot p j) 197))) AsPrinted Otherwise
+  unfoldable pub receiptAt : ℕ → List ℕ
+  receiptAt j = pick (same (piece printed 4 28) (sha3-224 (piece r (atBallot p j) 197))) asPrinted otherwise
 
   -- among the first n ballots: "or not posted (no such id)"
-  unfoldable pub receiptAmong : ℕ → Receipt
-  receiptAmong zero = NotPosted
+  unfoldable pub receiptAmong : ℕ → List ℕ
+  receiptAmong zero = notPosted
   receiptAmong (suc j) = pick (equal (idOf p r j) (number printed 0 4)) (receiptAt j) (receiptAmong j)
 
 -- "The receipt check tests its receipt's length (18), then 1 to 5 as the judge."
@@ -44,13 +39,9 @@ receiptRefusal r printed =
     let p = parametersOf r in
     rule 18 (equal (length printed) 32) (numberOf (found false p r First then ballotFaults false p r (p .ballots)))
 
-unfoldable pub receiptOf : ℕ → Receipt → Receipt
-receiptOf zero answer = answer
-receiptOf (suc k) answer = receiptRefused (suc k)
-
 -- "reads the parameters and all ballots and answers"
-unfoldable pub receiptChecked : List ℕ → List ℕ → Receipt
-receiptChecked r printed = let p = parametersOf r in receiptOf (receiptRefusal r printed) (receiptAmong p r printed (p .ballots))
+unfoldable pub receiptChecked : List ℕ → List ℕ → Answer
+receiptChecked r printed = let p = parametersOf r in answerOf (receiptRefusal r printed) (receiptAmong p r printed (p .ballots))
 
 -- ---- the announced votes
 
@@ -76,15 +67,15 @@ module _ (votes : List ℕ) where
   unfoldable pub voteCounts : List ℕ
   voteCounts = map (λ v. times v (item votes) (length votes)) distinctVotes
 
-  -- outputs of the votes' length, and no more votes than a count of 4 bytes holds, 18; votes that fall, 15
+  -- outputs of the votes' length, 18; votes that fall, 15
   unfoldable pub tallyRefusal : ℕ → ℕ → ℕ
   tallyRefusal valuesLong countsLong =
-      rule 18 (atMost (length votes) 4294967295 and equal valuesLong (length votes) and equal countsLong (length votes))
+      rule 18 (equal valuesLong (length votes) and equal countsLong (length votes))
       (rule 15 (every (λ i. equal i 0 or atMost (item votes (i - 1)) (item votes i)) (length votes)) kept)
 
-  unfoldable pub tallyOf : ℕ → Tally
-  tallyOf zero = Pairs (length distinctVotes)
-  tallyOf (suc k) = tallyRefused (suc k)
+  -- how many pairs there are
+  unfoldable pub tallied : ℕ → ℕ → Answer
+  tallied valuesLong countsLong = answerOf (tallyRefusal valuesLong countsLong) (length distinctVotes ∷ [])
 
 -- what stands in front of an output whose rest is left
 unfoldable pub inFront : List ℕ → List ℕ → List ℕ
@@ -126,9 +117,5 @@ drawRefusal p dice oneLong =
     rule 3 (inLimits p)
     (rule 18 (equal (length dice) 30 and equal oneLong (partOneLength p)) (rule 6 (fairDice dice) kept))
 
-unfoldable pub drawOf : ℕ → ℕ → Draw
-drawOf zero mask = Mask mask
-drawOf (suc k) mask = drawRefused (suc k)
-
-unfoldable pub drawn : Parameters → List ℕ → List ℕ → Draw
-drawn p dice one = drawOf (drawRefusal p dice (length one)) (drawnMask (p .compared) (challenge dice one))
+unfoldable pub drawn : Parameters → List ℕ → List ℕ → Answer
+drawn p dice one = answerOf (drawRefusal p dice (length one)) (drawnMask (p .compared) (challenge dice one) ∷ [])
