@@ -1,4 +1,1 @@
-pub mod Limits
-pub mod Marks
 pub mod Contents
-pub mod Endings

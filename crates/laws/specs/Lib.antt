@@ -15,3 +15,4 @@ pub mod At
 pub mod Writing
 pub mod Spans
 pub mod Lent
+pub mod Marks

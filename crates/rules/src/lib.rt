@@ -68,36 +68,6 @@ pub fn entry_rules(p: Parameters, bytes: &[u8], at: usize, l: usize, i: usize) -
     0
 }
 
-// Whether 30 characters are '1' to '6'.
-pub fn fair_dice(bytes: &[u8], at: usize) -> bool
-    requires { ⌜ at + 30 ≤ length (now bytes) ⌝ }
-    ensures { λ r. ⌜ r ≡ fairDice (piece (before bytes) at 30) ⌝ }
-{
-    let mut i: usize = 0;
-    while i < 30 {
-        let c = bytes[at + i];
-        if c < 49 {
-            return false;
-        }
-        if 54 < c {
-            return false;
-        }
-        i += 1;
-    }
-    true
-}
-
-// Whether a mask has as many ones as lists are compared, and no bit beyond the lists.
-pub fn right_shape(compared: usize, mask: u32) -> bool
-    requires { ⌜ compared ≤ 12 ⌝ }
-    ensures { λ r. ⌜ r ≡ rightShape compared mask ⌝ }
-{
-    if u32::count_ones(mask) as usize != compared {
-        return false;
-    }
-    32 - (u32::leading_zeros(mask) as usize) <= 2 * compared
-}
-
 // 04: dice, 6; the mask's shape, 7; as drawn, the drawn mask, 8. `text` is what the mask is drawn from.
 pub fn first_dice_rules(p: Parameters, bytes: &[u8], at: usize, drawn: bool, text: &[u8; 86]) -> u32
     requires { ⌜ FirstDiceReady p (now bytes) at drawn (now text) ⌝ }

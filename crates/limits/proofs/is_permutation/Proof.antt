@@ -1,4 +1,4 @@
--- `inputs::is_permutation` meets its contract: the first i numbers are places below n, each once, and those are marked.
+-- `limits::is_permutation` meets its contract: the first i numbers are places below n, each once, and those are marked.
 use mathlib.Core.Path.{_≡_, refl, sym, ap, _∙_}
 use mathlib.Core.Bool.{true, not}
 use Prim.Native.Nat.{_-_, _≤_}
@@ -7,19 +7,19 @@ use lib.ListN.{length, length-set}
 use Rattle.laws.specs.Tests.{every, every-more, every-stop}
 use Rattle.protocol.specs.Terms.{item, mostBallots}
 use Rattle.protocol.specs.Columns.{isPermutation}
-use Rattle.inputs.proofs.Marks.{unused, fresh, fresh-high, fresh-used, fresh-holds, Marks, none-marked, one-marked}
-use Rattle.inputs.proofs.is_permutation.Statement.{statement}
-use Rattle.inputs.proofs.is_permutation.Tie as tie
+use Rattle.laws.specs.Marks.{unused, fresh, fresh-high, fresh-used, fresh-holds, Marks, none-marked, one-marked}
+use Rattle.limits.proofs.is_permutation.Statement.{statement}
+use Rattle.limits.proofs.is_permutation.Tie as tie
 
 abbrev Inv-loop : tie.InvT-loop
-Inv-loop n permutation marks₀ i₀ marks i = (i ≤ n) × ((length marks ≡ mostBallots) × (Marks (item permutation) i marks × (every (fresh n (item permutation)) i ≡ true)))
+Inv-loop n permutation marks₀ i₀ marks i = (i ≤ n) × ((length marks ≡ mostBallots) × (Marks mostBallots (item permutation) i marks × (every (fresh n (item permutation)) i ≡ true)))
 
 abbrev μ-loop : tie.MeasureT-loop
 μ-loop n permutation marks₀ i₀ marks i = n - i
 
 loop-holds : tie.Need-loop-holds Inv-loop μ-loop
 unfolding every
-loop-holds c = (omega arith, (refl, (none-marked _, refl)))
+loop-holds c = (omega arith, (refl, (none-marked _ _, refl)))
 
 cast-place : tie.Need-cast-place Inv-loop μ-loop
 cast-place c = omega (arith, c .shared-slice-known .given (c .before .before .loop .i))

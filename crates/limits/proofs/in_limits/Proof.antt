@@ -1,10 +1,10 @@
--- `inputs::in_limits` meets its contract, one limit after the other.
+-- `limits::in_limits` meets its contract, one limit after the other.
 use native.Mathlib.Omega.{arith}
 use borrow.Author.Needs.{needs}
 use Rattle.laws.specs.Tests.{atMost-is, is-atMost, not-atMost, held, failed, and-go, and-stop}
 use Rattle.protocol.specs.Terms.{inLimits, listsInLimits}
-use Rattle.inputs.proofs.in_limits.Statement.{statement}
-use Rattle.inputs.proofs.in_limits.Tie as tie
+use Rattle.limits.proofs.in_limits.Statement.{statement}
+use Rattle.limits.proofs.in_limits.Tie as tie
 
 returns : tie.Need-returns
 unfolding inLimits
@@ -19,14 +19,18 @@ returns-2 c =
 returns-3 : tie.Need-returns-3
 unfolding inLimits listsInLimits
 returns-3 c =
-    and-go _ _ (held (c .before .before .before .before .modulus-in-limits .ensures) (c .before .before .before .if1 .left))
-    (and-go _ _ (held (c .before .before .ballots-in-limits .ensures) (c .before .if2 .left)) (and-stop _ _ (not-atMost (omega arith))))
+    let second = c .before .before .before in
+    let first = second .before .before in
+    and-go _ _ (held (first .modulus-in-limits .ensures) (second .before .if1 .left))
+    (and-go _ _ (held (second .ballots-in-limits .ensures) (c .before .before .if2 .left)) (and-stop _ _ (not-atMost (omega arith))))
 
 returns-4 : tie.Need-returns-4
 unfolding inLimits listsInLimits
 returns-4 c =
-    and-go _ _ (held (c .before .before .before .before .modulus-in-limits .ensures) (c .before .before .before .if1 .left))
-    (and-go _ _ (held (c .before .before .ballots-in-limits .ensures) (c .before .if2 .left)) (and-go _ _ (is-atMost (omega arith)) (atMost-is _ _)))
+    let second = c .before .before .before .before in
+    let first = second .before .before in
+    and-go _ _ (held (first .modulus-in-limits .ensures) (second .before .if1 .left))
+    (and-go _ _ (held (second .ballots-in-limits .ensures) (c .before .before .before .if2 .left)) (and-go _ _ (is-atMost (omega arith)) (atMost-is _ _)))
 
 pub in-limits-spec : {M : Type 1} → statement M
 in-limits-spec =

@@ -1,9 +1,9 @@
--- `inputs::ballots_in_limits` meets its contract, one limit after the other.
+-- `limits::ballots_in_limits` meets its contract, one limit after the other.
 use native.Mathlib.Omega.{arith}
 use Rattle.laws.specs.Tests.{atMost-is, is-atMost, not-atMost, and-go, and-stop}
 use Rattle.protocol.specs.Terms.{ballotsInLimits}
-use Rattle.inputs.proofs.ballots_in_limits.Statement.{statement}
-use Rattle.inputs.proofs.ballots_in_limits.Tie as tie
+use Rattle.limits.proofs.ballots_in_limits.Statement.{statement}
+use Rattle.limits.proofs.ballots_in_limits.Tie as tie
 
 returns : tie.Need-returns
 unfolding ballotsInLimits

@@ -1,4 +1,4 @@
--- `rules::right_shape` meets its contract: the leading zeros bound the mask.
+-- `limits::right_shape` meets its contract: the leading zeros bound the mask.
 use Prim.Native.Nat.{_-_, _*_, _^_}
 use native.Mathlib.Omega.{arith}
 use lib.Count.{leadingZeros, ones-le, leading-le}
@@ -7,9 +7,9 @@ use borrow.Author.Needs.{needs}
 use borrow.Author.Tests.{leb-true, le-leb}
 use Rattle.laws.specs.Tests.{below, is-equal, not-equal, is-below, below-iff, by-iff, and-go, and-stop}
 use Rattle.protocol.specs.Rules.{rightShape}
-use Rattle.rules.proofs.Lengths.{short}
-use Rattle.rules.proofs.right_shape.Statement.{statement}
-use Rattle.rules.proofs.right_shape.Tie as tie
+use Rattle.limits.proofs.Lengths.{short}
+use Rattle.limits.proofs.right_shape.Statement.{statement}
+use Rattle.limits.proofs.right_shape.Tie as tie
 
 cast-if1 : tie.Need-cast-if1
 cast-if1 c = omega (arith, ones-le 32 (c .args .mask) (c .fits .mask .fits))

@@ -1,4 +1,4 @@
--- `inputs::all_below` meets its contract: of the first i numbers each is below the limit.
+-- `limits::all_below` meets its contract: of the first i numbers each is below the limit.
 use mathlib.Core.Path.{_≡_, refl, sym}
 use mathlib.Core.Bool.{Bool, true}
 use mathlib.Core.List.{List}
@@ -7,8 +7,8 @@ use native.Mathlib.Omega.{arith}
 use lib.ListN.{length}
 use Rattle.laws.specs.Tests.{below, every, every-more, every-stop, is-below, not-below}
 use Rattle.protocol.specs.Terms.{item, allBelow}
-use Rattle.inputs.proofs.all_below.Statement.{statement}
-use Rattle.inputs.proofs.all_below.Tie as tie
+use Rattle.limits.proofs.all_below.Statement.{statement}
+use Rattle.limits.proofs.all_below.Tie as tie
 
 abbrev belowAt : ℕ → List ℕ → ℕ → Bool
 belowAt limit numbers i = below (item numbers i) limit

@@ -1,4 +1,4 @@
--- `rules::fair_dice` meets its contract. The loop: the characters passed are fair.
+-- `limits::fair_dice` meets its contract. The loop: the characters passed are fair.
 use mathlib.Core.Path.{_≡_, refl, sym}
 use mathlib.Core.Bool.{Bool, true}
 use mathlib.Core.List.{List}
@@ -8,8 +8,8 @@ use Rattle.laws.specs.Tests.{every, every-more, every-stop, is-atMost, not-atMo
 use Rattle.laws.specs.Chunks.{piece, get-piece}
 use Rattle.protocol.specs.Terms.{item}
 use Rattle.protocol.specs.Rules.{fairDie, fairDice}
-use Rattle.rules.proofs.fair_dice.Statement.{statement}
-use Rattle.rules.proofs.fair_dice.Tie as tie
+use Rattle.limits.proofs.fair_dice.Statement.{statement}
+use Rattle.limits.proofs.fair_dice.Tie as tie
 
 -- character k is fair
 abbrev fair : List ℕ → ℕ → ℕ → Bool

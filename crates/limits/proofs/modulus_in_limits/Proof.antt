@@ -1,10 +1,10 @@
--- `inputs::modulus_in_limits` meets its contract: a u32 cannot be above the upper limit.
+-- `limits::modulus_in_limits` meets its contract: a u32 cannot be above the upper limit.
 use mathlib.Core.Path.{_∙_}
 use native.Mathlib.Omega.{arith}
 use Rattle.laws.specs.Tests.{atMost-is, is-atMost, and-last}
 use Rattle.protocol.specs.Terms.{modulusInLimits}
-use Rattle.inputs.proofs.modulus_in_limits.Statement.{statement}
-use Rattle.inputs.proofs.modulus_in_limits.Tie as tie
+use Rattle.limits.proofs.modulus_in_limits.Statement.{statement}
+use Rattle.limits.proofs.modulus_in_limits.Tie as tie
 
 returns : tie.Need-returns
 unfolding modulusInLimits
