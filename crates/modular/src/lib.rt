@@ -26,3 +26,19 @@ pub fn minus(m: u32, a: u32, b: u32) -> u32
     }
     a + (m - b)
 }
+
+// a + b + c modulo m.
+pub fn sum_of_three(m: u32, a: u32, b: u32, c: u32) -> u32
+    requires { ⌜ (a < m) × ((b < m) × (c < m)) ⌝ }
+    ensures { λ r. ⌜ (r ≡ modulo.plus m (modulo.plus m a b) c) × (r < m) ⌝ }
+{
+    plus(m, plus(m, a, b), c)
+}
+
+// a - b - c modulo m.
+pub fn less_two(m: u32, a: u32, b: u32, c: u32) -> u32
+    requires { ⌜ (a < m) × ((b < m) × (c < m)) ⌝ }
+    ensures { λ r. ⌜ (r ≡ modulo.minus m (modulo.minus m a b) c) × (r < m) ⌝ }
+{
+    minus(m, minus(m, a, b), c)
+}
