@@ -19,13 +19,14 @@ use Rattle.protocol.specs.Inputs.{Slices, inputsOf, binarySides, partOne
 use Rattle.protocol.specs.Servers.{announced, postedBoard, postedComparison, postedDisclosure, firstPart, secondPart, maskFor, thirdPart, sidesFor}
 use Rattle.protocol.specs.Results.{announcedVotes}
 use Rattle.protocol.specs.Stands.{Stands, Drawn}
-use Rattle.protocol.specs.Election.{Choice, chosen, drawn, maskBy, sidesBy, secondRefusal, thirdRefusal, electionMask, electionTwo, electionSides, electionThree, electionRecord}
+use Rattle.protocol.specs.Election.{Choice, chosen, drawn, maskBy, sidesBy, secondRefusal, thirdRefusal, electionMask, electionTwo, electionSides, electionThree, electionRecord, electionRefusal}
 use Rattle.protocol.proofs.Fitting.{Fits}
 use Rattle.protocol.proofs.Goodness.{Good}
 use Rattle.protocol.proofs.Honesty.{Chosen, honest-fits, honest-valid}
 use Rattle.protocol.proofs.Unrefused as unrefusing
 use Rattle.protocol.proofs.Unrefused.{unrefused, good-inputs}
 use Rattle.protocol.proofs.Drawing.{drawn-mask, drawn-sides, item-drawn}
+use Rattle.protocol.proofs.Whole.{election-iff}
 use Rattle.protocol.proofs.Reading.{read-parameters, read-first-dice, read-mask, read-second-dice, read-side}
 use Rattle.protocol.proofs.Standing.{stands, before-first-dice, before-second-dice, announces}
 use Rattle.protocol.proofs.Accepting.{accepts-iff, accepts-drawn-iff}
@@ -107,6 +108,13 @@ pub record Unrefusing (s : Slices) (byMask : Choice ℕ) (dice₁ : List ℕ) (b
   pub one : (outLong : ℕ) × (partOneRefusal s outLong ≡ 0)
   pub two : (oneLong outLong : ℕ) × (secondRefusal s byMask dice₁ oneLong outLong ≡ 0)
   pub three : (oneLong twoLong outLong : ℕ) × (thirdRefusal s bySides dice₂ (electionMask s byMask dice₁) oneLong twoLong outLong ≡ 0)
+
+-- an election that is not refused
+pub none-refused : (s : Slices) (byMask : Choice ℕ) (dice₁ : List ℕ) (bySides : Choice (List ℕ)) (dice₂ : List ℕ) (oneLong twoLong threeLong joinedLong : ℕ)
+    → electionRefusal s byMask dice₁ bySides dice₂ oneLong twoLong threeLong joinedLong ≡ 0 → Unrefusing s byMask dice₁ bySides dice₂
+none-refused s byMask dice₁ bySides dice₂ oneLong twoLong threeLong joinedLong e =
+    let h = election-iff s byMask dice₁ bySides dice₂ oneLong twoLong threeLong joinedLong .0 e in
+    record { one = (_, h .one); two = (_, _, h .two); three = (_, _, _, h .three) }
 
 module _ (s : Slices) where
   second-taken : (byMask : Choice ℕ) (dice₁ : List ℕ) (oneLong outLong : ℕ) → secondRefusal s byMask dice₁ oneLong outLong ≡ 0

@@ -11,6 +11,7 @@ pub mod Mixing
 pub mod Honesty
 pub mod Unrefused
 pub mod Drawing
+pub mod Whole
 pub mod Widths
 pub mod Operands
 pub mod Locating

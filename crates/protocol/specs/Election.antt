@@ -1,14 +1,24 @@
 -- Document 01, "Servers' writing": the three calls as one election. "mask or sides are given with them, or drawn from these dice and the
 -- earlier parts as lent"; "Parts written from the same inputs and mask, any draw made on the parts written before, form one record".
+use mathlib.Core.Bool.{Bool, true, false}
 use mathlib.Core.List.{List, _++_}
 use Prim.Native.Nat.{ℕ}
-use Rattle.protocol.specs.Inputs.{Slices, partTwoRefusal, partTwoDrawnRefusal, partThreeRefusal, partThreeDrawnRefusal}
+use lib.ListN.{length}
+use Rattle.laws.specs.Tests.{equal, _and_}
+use Rattle.protocol.specs.Layout.{recordLength, partOneLength, partTwoLength, partThreeLength}
+use Rattle.protocol.specs.Rules.{fairDice, rightShape}
+use Rattle.protocol.specs.Inputs.{Slices, refusal, binarySides, partTwoRefusal, partTwoDrawnRefusal, partThreeRefusal, partThreeDrawnRefusal}
 use Rattle.protocol.specs.Servers.{firstPart, secondPart, maskFor, thirdPart, sidesFor}
 
 -- what is given, or drawn
 pub data Choice (A : Type 0) : Type 0 where
   chosen : A → Choice A
   drawn : Choice A
+
+-- by a switch that says whether it is given
+unfoldable pub choiceOf : {A : Type 0} → Bool → A → Choice A
+choiceOf true x = chosen x
+choiceOf false x = drawn
 
 module _ (s : Slices) where
   unfoldable pub maskBy : Choice ℕ → List ℕ → List ℕ → ℕ
@@ -46,3 +56,29 @@ module _ (s : Slices) where
       -- "the three buffers as these calls left them, joined in order"
       unfoldable pub electionRecord : List ℕ
       electionRecord = firstPart s ++ (electionTwo ++ electionThree)
+
+  -- ---- what an election refuses
+
+  -- the tests of a mask and of sides that are given; what is drawn needs none
+  unfoldable pub maskInShape : Choice ℕ → Bool
+  maskInShape (chosen mask) = rightShape (s .parameters .compared) mask
+  maskInShape drawn = true
+
+  unfoldable pub sidesDue : Choice (List ℕ) → Bool
+  sidesDue (chosen sides) = equal (length sides) (s .parameters .ballots)
+  sidesDue drawn = true
+
+  unfoldable pub sidesBinary : Choice (List ℕ) → Bool
+  sidesBinary (chosen sides) = binarySides s sides
+  sidesBinary drawn = true
+
+  -- "Writers test 3, then 18, then the rest in rising number, each over the whole input": here the inputs of all three calls, and the four
+  -- buffers' lengths
+  unfoldable pub electionRefusal : Choice ℕ → List ℕ → Choice (List ℕ) → List ℕ → ℕ → ℕ → ℕ → ℕ → ℕ
+  electionRefusal byMask dice₁ bySides dice₂ oneLong twoLong threeLong joinedLong =
+      refusal s
+      (equal (length dice₁) 30 and equal (length dice₂) 30 and sidesDue bySides and equal oneLong (partOneLength (s .parameters))
+      and equal twoLong (partTwoLength (s .parameters))
+      and equal threeLong (partThreeLength (s .parameters))
+      and equal joinedLong (recordLength (s .parameters)))
+      (fairDice dice₁ and fairDice dice₂) (maskInShape byMask) (sidesBinary bySides)

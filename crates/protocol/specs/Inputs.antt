@@ -42,26 +42,46 @@ pub record Inputs : Type 0 where
   pub ballotKey : ℕ → ℕ → List ℕ
   pub entryKey : ℕ → ℕ → ℕ → List ℕ
 
+-- ---- the numbers of a ballot, the numbers and the permutations' numbers of a list entry, and the bytes of keys of either
+
+abbrev pub numbersPerBallot : ℕ
+numbersPerBallot = 5
+
+abbrev pub numbersPerEntry : ℕ
+numbersPerEntry = 9
+
+abbrev pub permutationsPerEntry : ℕ
+permutationsPerEntry = 3
+
+abbrev pub keysWidth : ℕ
+keysWidth = 192
+
 module _ (s : Slices) where
   -- "numbers, per ballot x, y, u1, u2, u3"
   unfoldable pub ballotNumbers : ℕ → List ℕ
-  ballotNumbers j = piece (s .numbers) (5 * j) 5
+  ballotNumbers j = piece (s .numbers) (numbersPerBallot * j) numbersPerBallot
 
   -- "then per list three columns of n offset pairs (rows one and two, in that column's incoming order) and n triples of first halves
   -- (by list position)"
   unfoldable pub listNumbers : ℕ → List ℕ
-  listNumbers l = piece (s .numbers) (5 * s .parameters .ballots + l * (9 * s .parameters .ballots)) (9 * s .parameters .ballots)
+  listNumbers l =
+      let n = s .parameters .ballots in
+      piece (s .numbers) (numbersPerBallot * n + l * (numbersPerEntry * n)) (numbersPerEntry * n)
 
   -- "permutations, three per list"
   unfoldable pub listPermutations : ℕ → List ℕ
-  listPermutations l = piece (s .permutations) (l * (3 * s .parameters .ballots)) (3 * s .parameters .ballots)
+  listPermutations l =
+      let n = s .parameters .ballots in
+      piece (s .permutations) (l * (permutationsPerEntry * n)) (permutationsPerEntry * n)
 
   -- "keys, 192 bytes per ballot, then per list and position"
   unfoldable pub ballotKeys : ℕ → List ℕ
-  ballotKeys j = piece (s .keys) (192 * j) 192
+  ballotKeys j = piece (s .keys) (keysWidth * j) keysWidth
 
   unfoldable pub entryKeys : ℕ → ℕ → List ℕ
-  entryKeys l i = piece (s .keys) (192 * s .parameters .ballots + 192 * (l * s .parameters .ballots + i)) 192
+  entryKeys l i =
+      let n = s .parameters .ballots in
+      piece (s .keys) (keysWidth * n + keysWidth * (l * n + i)) keysWidth
 
   unfoldable pub inputsOf : Inputs
   inputsOf =
@@ -88,9 +108,9 @@ module _ (s : Slices) where
       let mn = s .parameters .compared * s .parameters .ballots in
       equal (length (s .ids)) n
       and equal (length (s .votes)) n
-      and equal (length (s .numbers)) (5 * n + 18 * mn)
-      and equal (length (s .permutations)) (6 * mn)
-      and equal (length (s .keys)) (192 * n + 384 * mn)
+      and equal (length (s .numbers)) (numbersPerBallot * n + 2 * numbersPerEntry * mn)
+      and equal (length (s .permutations)) (2 * permutationsPerEntry * mn)
+      and equal (length (s .keys)) (keysWidth * n + 2 * keysWidth * mn)
 
   -- 5, "an id not above the one before"
   unfoldable pub idsRise : Bool
@@ -107,7 +127,9 @@ module _ (s : Slices) where
       (rule 18 (dueLengths and lengths)
       (rule 5 idsRise
       (rule 6 fair
-      (rule 7 shape (rule 10 (allBelow (s .parameters .modulus) (s .votes) and allBelow (s .parameters .modulus) (s .numbers)) (rule 11 binary (rule 19 allPermutations kept)))))))
+      (rule 7 shape
+      (rule 10 (allBelow (s .parameters .modulus) (s .votes) and allBelow (s .parameters .modulus) (s .numbers))
+      (rule 11 binary (rule 19 allPermutations kept)))))))
 
   -- part one into a buffer
   unfoldable pub partOneRefusal : ℕ → ℕ
@@ -116,12 +138,15 @@ module _ (s : Slices) where
   -- part two, mask given
   unfoldable pub partTwoRefusal : List ℕ → ℕ → ℕ → ℕ
   partTwoRefusal dice mask outLong =
-      refusal (equal (length dice) 30 and equal outLong (partTwoLength (s .parameters))) (fairDice dice) (rightShape (s .parameters .compared) mask) true
+      refusal (equal (length dice) 30 and equal outLong (partTwoLength (s .parameters))) (fairDice dice)
+      (rightShape (s .parameters .compared) mask) true
 
   -- part two, mask drawn from the dice and part one as lent
   unfoldable pub partTwoDrawnRefusal : List ℕ → ℕ → ℕ → ℕ
   partTwoDrawnRefusal dice oneLong outLong =
-      refusal (equal (length dice) 30 and equal oneLong (partOneLength (s .parameters)) and equal outLong (partTwoLength (s .parameters))) (fairDice dice) true true
+      refusal
+      (equal (length dice) 30 and equal oneLong (partOneLength (s .parameters)) and equal outLong (partTwoLength (s .parameters)))
+      (fairDice dice) true true
 
   -- part three, sides given: 11, "side byte above 1"
   unfoldable pub binarySides : List ℕ → Bool

@@ -3,6 +3,16 @@
 // The limit on the number of ballots, and the length of a row of marks.
 pub const MOST_BALLOTS: usize = 1024;
 
+// How the servers' inputs are cut: the numbers of a ballot, the numbers and the permutations' numbers of a list entry, and the bytes of keys
+// of either.
+pub const BALLOT_NUMBERS: usize = 5;
+
+pub const ENTRY_NUMBERS: usize = 9;
+
+pub const ENTRY_PERMUTATIONS: usize = 3;
+
+pub const KEYS_WIDTH: usize = 192;
+
 // What the first command says: the modulus M, the number of ballots n, and m: of 2m lists m are compared and m are opened.
 pub struct Parameters {
     pub modulus: u32,
