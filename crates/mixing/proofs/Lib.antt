@@ -1,4 +1,2 @@
-pub mod Filling
-pub mod Columns
-pub mod Positions
+pub mod Following
 pub mod Agreement

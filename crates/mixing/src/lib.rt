@@ -1,212 +1,189 @@
-// What a record's writer needs of one list: the rows of the ballots, the list after its three columns, and each ballot's link.
+// The numbers of a ballot and of a list entry, out of the slices that the servers are handed. An entry is followed back through its three
+// permutations to its ballot, and the offsets met on the way are added: no row is kept.
 ghost use mathlib.Core.Path.{_≡_};
-ghost use Prim.Native.Nat.{ℕ, _+_, _*_, _<_};
+ghost use mathlib.Core.List.{[]};
+ghost use Prim.Native.Nat.{ℕ, _+_, _*_, _≤_, _<_};
 ghost use lib.ListN.{length};
+ghost use Rattle.laws.specs.Bytes.{Below};
 ghost use Rattle.laws.specs.Lent.{before, after};
-ghost use Rattle.laws.specs.Modular as modulo;
-ghost use Rattle.laws.specs.Permutations.{whence};
-ghost use Rattle.laws.specs.Tables.{tabulate};
+ghost use Rattle.laws.specs.Modular.{minus};
 ghost use Rattle.protocol.specs.Terms.{item};
-ghost use Rattle.protocol.specs.Tablet.{share};
-ghost use Rattle.mixing.specs.Lists.{shareAt, BallotsReady, Rows, rowsAt, columnAt, throughAt, mixedAt, OffsetsReady, ColumnReady, ThroughReady, ListReady, sourceAt, PermutationsReady, sumOfItems};
+ghost use Rattle.protocol.specs.Inputs.{inputsOf};
+ghost use Rattle.protocol.specs.Servers as servers;
+ghost use Rattle.protocol.specs.Servers.{ballotRow, ballotNumber, rowOffset, sourceOf, entryNumber, linkPosition, sumOfHalves};
+ghost use Rattle.mixing.specs.Followed.{trail, InList, Places, Votes, Numbers, threeAt, sumOfItems};
+use protocol::Parameters;
 
-// Of three numbers that sum to `whole`, the first two given: number k. So a vote is shared, and row three's offset makes 0 with those of
-// rows one and two.
-fn share_of(modulus: u32, whole: u32, x: u32, y: u32, k: usize) -> u32
-    requires { ⌜ (whole < modulus) × ((x < modulus) × (y < modulus)) ⌝ }
-    ensures { λ r. ⌜ (r ≡ share modulus whole x y k) × (r < modulus) ⌝ }
+// Where place i of permutation c of list l stands.
+fn place_at(p: Parameters, l: usize, c: usize, i: usize) -> usize
+    requires { ⌜ InList p l × ((c < 3) × (i < p .ballots)) ⌝ }
+    ensures { λ r. ⌜ (r ≡ l * (3 * p .ballots) + (c * p .ballots + i)) × (r < 6 * (p .compared * p .ballots)) ⌝ }
 {
-    if k == 0 {
-        return x;
-    }
-    if k == 1 {
-        return y;
-    }
-    let less = modular::minus(modulus, whole, x);
-    modular::minus(modulus, less, y)
+    let n = p.ballots;
+    l * (3 * n) + (c * n + i)
 }
 
-// Row k of the ballots.
-fn fill_row(modulus: u32, votes: &[u32], numbers: &[u32], k: usize, out: &mut [u32])
-    requires { ⌜ BallotsReady modulus (now votes) (now numbers) × (length (now out) ≡ length (now votes)) ⌝ }
-    ensures { λ _. ⌜ after out ≡ tabulate (shareAt modulus (before votes) (before numbers) k) (length (before votes)) ⌝ }
+// Where the numbers of list l start.
+fn numbers_at(p: Parameters, l: usize) -> usize
+    requires { ⌜ InList p l ⌝ }
+    ensures { λ r.
+        ⌜ (r ≡ 5 * p .ballots + l * (9 * p .ballots)) × (r + 9 * p .ballots ≤ 5 * p .ballots + 18 * (p .compared * p .ballots)) ⌝ }
 {
-    let n = votes.len();
-    let mut j: usize = 0;
-    while j < n {
-        out[j] = share_of(modulus, votes[j], numbers[5 * j], numbers[5 * j + 1], k);
-        j += 1;
-    }
+    let n = p.ballots;
+    5 * n + l * (9 * n)
 }
 
-// The rows x, y and z of the ballots, one behind the other.
-pub fn fill_rows(modulus: u32, votes: &[u32], numbers: &[u32], out: &mut [u32])
-    requires { ⌜ BallotsReady modulus (now votes) (now numbers) × (length (now out) ≡ 3 * length (now votes)) ⌝ }
-    ensures { λ _. ⌜ Rows modulus (length (before votes)) (shareAt modulus (before votes) (before numbers)) (after out) ⌝ }
+// Where column c of list l takes place i from.
+fn from(p: Parameters, permutations: &[u16], l: usize, c: usize, i: usize) -> usize
+    requires { ⌜ Places p (now permutations) × (InList p l × ((c < 3) × (i < p .ballots))) ⌝ }
+    ensures { λ r.
+        let s = inputsOf (trail p [] [] (before permutations)) in
+        ⌜ (r ≡ s .permutation l c i) × (r < p .ballots) ⌝ }
 {
-    let n = votes.len();
-    let mut k: usize = 0;
-    while k < 3 {
-        let from = k * n;
-        let to = from + n;
-        fill_row(modulus, votes, numbers, k, &mut out[from..to]);
-        k += 1;
-    }
+    let at = place_at(p, l, c, i);
+    permutations[at] as usize
 }
 
-// The offsets of row k, from the pairs for rows one and two.
-fn row_offsets(modulus: u32, pairs: &[u32], k: usize, out: &mut [u32])
-    requires { ⌜ OffsetsReady modulus (now pairs) (length (now out)) ⌝ }
-    ensures { λ _. ⌜ after out ≡ tabulate (λ i. share modulus 0 (item (before pairs) (2 * i)) (item (before pairs) (2 * i + 1)) k) (length (before out)) ⌝ }
+// The ballot that place i of list l holds.
+pub fn source(p: Parameters, permutations: &[u16], l: usize, i: usize) -> usize
+    requires { ⌜ Places p (now permutations) × (InList p l × (i < p .ballots)) ⌝ }
+    ensures { λ r.
+        let s = inputsOf (trail p [] [] (before permutations)) in
+        ⌜ (r ≡ sourceOf s l i) × (r < p .ballots) ⌝ }
 {
-    let n = out.len();
+    let third = from(p, permutations, l, 2, i);
+    let second = from(p, permutations, l, 1, third);
+    from(p, permutations, l, 0, second)
+}
+
+// Share k of ballot j.
+fn ballot_share(p: Parameters, votes: &[u32], numbers: &[u32], k: usize, j: usize) -> u32
+    requires { ⌜ Votes p (now votes) × (Numbers p (now numbers) × (j < p .ballots)) ⌝ }
+    ensures { λ r.
+        let s = inputsOf (trail p (before votes) (before numbers) []) in
+        ⌜ (r ≡ ballotRow s k j) × (r < p .modulus) ⌝ }
+{
+    shares::share(p.modulus, votes[j], numbers[5 * j], numbers[5 * j + 1], k)
+}
+
+// Row k's offset in column c of list l at place i: rows one and two are given, row three's is worked out.
+fn offset(p: Parameters, numbers: &[u32], l: usize, c: usize, k: usize, i: usize) -> u32
+    requires { ⌜ Numbers p (now numbers) × (InList p l × ((c < 3) × (i < p .ballots))) ⌝ }
+    ensures { λ r.
+        let s = inputsOf (trail p [] (before numbers) []) in
+        ⌜ (r ≡ rowOffset s l c k i) × (r < p .modulus) ⌝ }
+{
+    let start = numbers_at(p, l);
+    let n = p.ballots;
+    let at = start + (c * (2 * n) + 2 * i);
+    shares::share(p.modulus, 0, numbers[at], numbers[at + 1], k)
+}
+
+// Row k of list l at place i.
+pub fn mixed(
+    p: Parameters,
+    votes: &[u32],
+    numbers: &[u32],
+    permutations: &[u16],
+    l: usize,
+    k: usize,
+    i: usize,
+) -> u32
+    requires { ⌜ Votes p (now votes) × (Numbers p (now numbers) × (Places p (now permutations) × (InList p l × (i < p .ballots)))) ⌝ }
+    ensures { λ r.
+        let s = inputsOf (trail p (before votes) (before numbers) (before permutations)) in
+        ⌜ (r ≡ servers.mixed s l k i) × (r < p .modulus) ⌝ }
+{
+    let third = from(p, permutations, l, 2, i);
+    let second = from(p, permutations, l, 1, third);
+    let ballot = from(p, permutations, l, 0, second);
+    let none = ballot_share(p, votes, numbers, k, ballot);
+    let one = modular::plus(p.modulus, none, offset(p, numbers, l, 0, k, ballot));
+    let two = modular::plus(p.modulus, one, offset(p, numbers, l, 1, k, second));
+    modular::plus(p.modulus, two, offset(p, numbers, l, 2, k, third))
+}
+
+// Three numbers that stand one behind the other.
+fn three(numbers: &[u32], at: usize) -> [u32; 3]
+    requires { ⌜ at + 3 ≤ length (now numbers) ⌝ }
+    ensures { λ r. ⌜ r ≡ threeAt (before numbers) at ⌝ }
+{
+    [numbers[at], numbers[at + 1], numbers[at + 2]]
+}
+
+// .. and summed.
+fn sum_at(modulus: u32, numbers: &[u32], at: usize) -> u32
+    requires { ⌜ (at + 3 ≤ length (now numbers)) × Below modulus (now numbers) ⌝ }
+    ensures { λ r. ⌜ (r ≡ sumOfItems modulus (threeAt (before numbers) at)) × (r < modulus) ⌝ }
+{
+    modular::sum_of_three(modulus, numbers[at], numbers[at + 1], numbers[at + 2])
+}
+
+// The six numbers of ballot j.
+pub fn ballot(p: Parameters, votes: &[u32], numbers: &[u32], j: usize) -> [u32; 6]
+    requires { ⌜ Votes p (now votes) × (Numbers p (now numbers) × (j < p .ballots)) ⌝ }
+    ensures { λ r.
+        let s = inputsOf (trail p (before votes) (before numbers) []) in
+        ⌜ ((q : ℕ) → q < 6 → (item r q ≡ ballotNumber s j q) × (item r q < p .modulus)) ⌝ }
+{
+    let x = ballot_share(p, votes, numbers, 0, j);
+    let y = ballot_share(p, votes, numbers, 1, j);
+    let z = ballot_share(p, votes, numbers, 2, j);
+    shares::split(p.modulus, [x, y, z], three(numbers, 5 * j + 2))
+}
+
+// The six numbers of place i of list l.
+pub fn entry(
+    p: Parameters,
+    votes: &[u32],
+    numbers: &[u32],
+    permutations: &[u16],
+    l: usize,
+    i: usize,
+) -> [u32; 6]
+    requires { ⌜ Votes p (now votes) × (Numbers p (now numbers) × (Places p (now permutations) × (InList p l × (i < p .ballots)))) ⌝ }
+    ensures { λ r.
+        let s = inputsOf (trail p (before votes) (before numbers) (before permutations)) in
+        ⌜ ((q : ℕ) → q < 6 → (item r q ≡ entryNumber s l i q) × (item r q < p .modulus)) ⌝ }
+{
+    let x = mixed(p, votes, numbers, permutations, l, 0, i);
+    let y = mixed(p, votes, numbers, permutations, l, 1, i);
+    let z = mixed(p, votes, numbers, permutations, l, 2, i);
+    let start = numbers_at(p, l);
+    let n = p.ballots;
+    shares::split(
+        p.modulus,
+        [x, y, z],
+        three(numbers, start + (6 * n + 3 * i)),
+    )
+}
+
+// The place of each ballot in list l.
+pub fn fill_places(p: Parameters, permutations: &[u16], l: usize, out: &mut [u16])
+    requires { ⌜ Places p (now permutations) × (InList p l × (length (now out) ≡ p .ballots)) ⌝ }
+    ensures { λ _.
+        let s = inputsOf (trail p [] [] (before permutations)) in
+        ⌜ (length (after out) ≡ p .ballots) × ((j : ℕ) → j < p .ballots → item (after out) j ≡ linkPosition s l j) ⌝ }
+{
+    let n = p.ballots;
     let mut i: usize = 0;
     while i < n {
-        out[i] = share_of(modulus, 0, pairs[2 * i], pairs[2 * i + 1], k);
+        let j = source(p, permutations, l, i);
+        out[j] = i as u16;
         i += 1;
     }
 }
 
-// Column c of row k: the row server is lent its row, its offsets and the permutation only.
-fn column(
-    modulus: u32,
-    n: usize,
-    c: usize,
-    k: usize,
-    numbers: &[u32],
-    mine: &[u32],
-    permutations: &[u16],
-    offsets: &mut [u32],
-    out: &mut [u32],
-)
-    requires { ⌜ ColumnReady modulus n c (now numbers) (now mine) (now permutations) (length (now offsets)) (length (now out)) ⌝ }
-    ensures { λ _. ⌜ after out ≡ tabulate (columnAt modulus n (before mine) (before permutations) c k (item (before numbers))) n ⌝ }
+// The shift of ballot j's link to place i of list l: the ballot's first halves less the list's.
+pub fn shift(p: Parameters, numbers: &[u32], l: usize, j: usize, i: usize) -> u32
+    requires { ⌜ Numbers p (now numbers) × (InList p l × ((j < p .ballots) × (i < p .ballots))) ⌝ }
+    ensures { λ r.
+        let s = inputsOf (trail p [] (before numbers) []) in
+        ⌜ (r ≡ minus (p .modulus) (sumOfHalves s (s .firstHalf j)) (sumOfHalves s (s .entryFirstHalf l i))) × (r < p .modulus) ⌝ }
 {
-    let first = c * (2 * n);
-    let last = first + 2 * n;
-    row_offsets(modulus, &mine[first..last], k, offsets);
-    let from = c * n;
-    let to = from + n;
-    mixnet::mix_row(modulus, numbers, offsets, &permutations[from..to], out);
-}
-
-// Row k through its three columns, with room for its offsets and for a row between.
-fn through(
-    modulus: u32,
-    n: usize,
-    k: usize,
-    numbers: &[u32],
-    mine: &[u32],
-    permutations: &[u16],
-    offsets: &mut [u32],
-    between: &mut [u32],
-    out: &mut [u32],
-)
-    requires { ⌜ ThroughReady modulus n (now numbers) (now mine) (now permutations) (length (now offsets)) (length (now between)) (length (now out)) ⌝ }
-    ensures { λ _. ⌜ after out ≡ tabulate (throughAt modulus n (before mine) (before permutations) k (item (before numbers))) n ⌝ }
-{
-    column(modulus, n, 0, k, numbers, mine, permutations, offsets, out);
-    column(modulus, n, 1, k, out, mine, permutations, offsets, between);
-    column(modulus, n, 2, k, between, mine, permutations, offsets, out);
-}
-
-// The list's three rows, with that room.
-fn mix_rows(
-    modulus: u32,
-    n: usize,
-    rows: &[u32],
-    mine: &[u32],
-    permutations: &[u16],
-    offsets: &mut [u32],
-    between: &mut [u32],
-    out: &mut [u32],
-)
-    requires { ⌜ ListReady modulus n (now rows) (now mine) (now permutations) (length (now out)) × ((length (now offsets) ≡ n) × (length (now between) ≡ n)) ⌝ }
-    ensures { λ _. ⌜ Rows modulus n (mixedAt modulus n (rowsAt n (before rows)) (before mine) (before permutations)) (after out) ⌝ }
-{
-    let mut k: usize = 0;
-    while k < 3 {
-        let from = k * n;
-        let to = from + n;
-        through(
-            modulus,
-            n,
-            k,
-            &rows[from..to],
-            mine,
-            permutations,
-            offsets,
-            between,
-            &mut out[from..to],
-        );
-        k += 1;
-    }
-}
-
-// The list's three rows, each through its three columns. `mine` holds the list's offset pairs and first halves.
-pub fn mix_list(
-    modulus: u32,
-    n: usize,
-    rows: &[u32],
-    mine: &[u32],
-    permutations: &[u16],
-    out: &mut [u32],
-)
-    requires { ⌜ ListReady modulus n (now rows) (now mine) (now permutations) (length (now out)) ⌝ }
-    ensures { λ _. ⌜ Rows modulus n (mixedAt modulus n (rowsAt n (before rows)) (before mine) (before permutations)) (after out) ⌝ }
-{
-    let mut offsets = [0u32; 1024];
-    let mut between = [0u32; 1024];
-    mix_rows(
-        modulus,
-        n,
-        rows,
-        mine,
-        permutations,
-        &mut offsets[..n],
-        &mut between[..n],
-        out,
-    );
-}
-
-// The ballot that a place of the list holds.
-fn source_of(n: usize, permutations: &[u16], i: usize) -> usize
-    requires { ⌜ PermutationsReady n (now permutations) × (i < n) ⌝ }
-    ensures { λ r. ⌜ (r ≡ sourceAt n (before permutations) i) × (r < n) ⌝ }
-{
-    let third = permutations[2 * n + i] as usize;
-    let second = permutations[n + third] as usize;
-    permutations[second] as usize
-}
-
-// The place of each ballot in the list.
-pub fn fill_positions(n: usize, permutations: &[u16], out: &mut [u32])
-    requires { ⌜ PermutationsReady n (now permutations) × (length (now out) ≡ n) ⌝ }
-    ensures { λ _. ⌜ (length (after out) ≡ n) × ((j : ℕ) → j < n → item (after out) j ≡ whence (sourceAt n (before permutations)) j n) ⌝ }
-{
-    let mut i: usize = 0;
-    while i < n {
-        let j = source_of(n, permutations, i);
-        out[j] = i as u32;
-        i += 1;
-    }
-}
-
-// Three first halves, summed.
-fn sum_of_halves(modulus: u32, halves: [u32; 3]) -> u32
-    requires { ⌜ ((k : ℕ) → k < 3 → item halves k < modulus) ⌝ }
-    ensures { λ r. ⌜ (r ≡ sumOfItems modulus halves) × (r < modulus) ⌝ }
-{
-    let two = modular::plus(modulus, halves[0], halves[1]);
-    modular::plus(modulus, two, halves[2])
-}
-
-// The ballot's first halves less the list's.
-pub fn link_shift(modulus: u32, first: [u32; 3], second: [u32; 3]) -> u32
-    requires { ⌜ ((k : ℕ) → k < 3 → (item first k < modulus) × (item second k < modulus)) ⌝ }
-    ensures { λ r. ⌜ (r ≡ modulo.minus modulus (sumOfItems modulus first) (sumOfItems modulus second)) × (r < modulus) ⌝ }
-{
-    let ballot = sum_of_halves(modulus, first);
-    let entry = sum_of_halves(modulus, second);
-    modular::minus(modulus, ballot, entry)
+    let start = numbers_at(p, l);
+    let n = p.ballots;
+    let ballot = sum_at(p.modulus, numbers, 5 * j + 2);
+    let entry = sum_at(p.modulus, numbers, start + (6 * n + 3 * i));
+    modular::minus(p.modulus, ballot, entry)
 }

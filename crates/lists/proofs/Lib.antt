@@ -1,4 +1,0 @@
-pub mod Ready
-pub mod Filling
-pub mod Splits
-pub mod Agreement
