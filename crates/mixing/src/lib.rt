@@ -12,6 +12,9 @@ ghost use Rattle.protocol.specs.Inputs.{inputsOf};
 ghost use Rattle.protocol.specs.Servers as servers;
 ghost use Rattle.protocol.specs.Servers.{ballotRow, ballotNumber, rowOffset, sourceOf, entryNumber, linkPosition, sumOfHalves};
 ghost use Rattle.mixing.specs.Followed.{trail, InList, Places, Votes, Numbers, threeAt, sumOfItems};
+use protocol::BALLOT_NUMBERS;
+use protocol::ENTRY_NUMBERS;
+use protocol::ENTRY_PERMUTATIONS;
 use protocol::Parameters;
 
 // Where place i of permutation c of list l stands.
@@ -20,7 +23,7 @@ fn place_at(p: Parameters, l: usize, c: usize, i: usize) -> usize
     ensures { λ r. ⌜ (r ≡ l * (3 * p .ballots) + (c * p .ballots + i)) × (r < 6 * (p .compared * p .ballots)) ⌝ }
 {
     let n = p.ballots;
-    l * (3 * n) + (c * n + i)
+    l * (ENTRY_PERMUTATIONS * n) + (c * n + i)
 }
 
 // Where the numbers of list l start.
@@ -30,7 +33,7 @@ fn numbers_at(p: Parameters, l: usize) -> usize
         ⌜ (r ≡ 5 * p .ballots + l * (9 * p .ballots)) × (r + 9 * p .ballots ≤ 5 * p .ballots + 18 * (p .compared * p .ballots)) ⌝ }
 {
     let n = p.ballots;
-    5 * n + l * (9 * n)
+    BALLOT_NUMBERS * n + l * (ENTRY_NUMBERS * n)
 }
 
 // Where column c of list l takes place i from.
@@ -45,7 +48,7 @@ fn from(p: Parameters, permutations: &[u16], l: usize, c: usize, i: usize) -> us
 }
 
 // The ballot that place i of list l holds.
-pub fn source(p: Parameters, permutations: &[u16], l: usize, i: usize) -> usize
+fn source(p: Parameters, permutations: &[u16], l: usize, i: usize) -> usize
     requires { ⌜ Places p (now permutations) × (InList p l × (i < p .ballots)) ⌝ }
     ensures { λ r.
         let s = inputsOf (trail p [] [] (before permutations)) in
@@ -63,7 +66,13 @@ fn ballot_share(p: Parameters, votes: &[u32], numbers: &[u32], k: usize, j: usiz
         let s = inputsOf (trail p (before votes) (before numbers) []) in
         ⌜ (r ≡ ballotRow s k j) × (r < p .modulus) ⌝ }
 {
-    shares::share(p.modulus, votes[j], numbers[5 * j], numbers[5 * j + 1], k)
+    shares::share(
+        p.modulus,
+        votes[j],
+        numbers[BALLOT_NUMBERS * j],
+        numbers[BALLOT_NUMBERS * j + 1],
+        k,
+    )
 }
 
 // Row k's offset in column c of list l at place i: rows one and two are given, row three's is worked out.
@@ -80,7 +89,7 @@ fn offset(p: Parameters, numbers: &[u32], l: usize, c: usize, k: usize, i: usize
 }
 
 // Row k of list l at place i.
-pub fn mixed(
+fn mixed(
     p: Parameters,
     votes: &[u32],
     numbers: &[u32],
@@ -129,7 +138,7 @@ pub fn ballot(p: Parameters, votes: &[u32], numbers: &[u32], j: usize) -> [u32; 
     let x = ballot_share(p, votes, numbers, 0, j);
     let y = ballot_share(p, votes, numbers, 1, j);
     let z = ballot_share(p, votes, numbers, 2, j);
-    shares::split(p.modulus, [x, y, z], three(numbers, 5 * j + 2))
+    shares::split(p.modulus, [x, y, z], three(numbers, BALLOT_NUMBERS * j + 2))
 }
 
 // The six numbers of place i of list l.
@@ -183,7 +192,7 @@ pub fn shift(p: Parameters, numbers: &[u32], l: usize, j: usize, i: usize) -> u3
 {
     let start = numbers_at(p, l);
     let n = p.ballots;
-    let ballot = sum_at(p.modulus, numbers, 5 * j + 2);
+    let ballot = sum_at(p.modulus, numbers, BALLOT_NUMBERS * j + 2);
     let entry = sum_at(p.modulus, numbers, start + (6 * n + 3 * i));
     modular::minus(p.modulus, ballot, entry)
 }

@@ -10,8 +10,7 @@ use Rattle.mixing.proofs.shift.Tie as tie
 returns : tie.Need-returns
 returns c =
     let g = c .before .before .before in
-    let s = g .before .before in
-    (
+    let s = g .before .before in (
       shift-is _ (s .args .numbers .now) (s .args .l) (s .args .j) (s .args .i) _ (s .pre .1 .1 .1)
           (ap (λ (x : ℕ). x + (6 * s .args .p .ballots + 3 * s .args .i)) (g .numbers-at .ensures .0)) refl refl (c .before .before .sum-at .ensures .0)
           (c .before .sum-at2 .ensures .0) (c .minus .ensures .0),
