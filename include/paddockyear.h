@@ -1,4 +1,4 @@
-/* The C faces of Paddockyear's entries, in libexports.a (`rt staticlib exports`).
+/* The C faces of Paddockyear's entries, in libpaddockyear.a (`rt staticlib paddockyear`).
  *
  * A slice is a pointer and a length. An answer is 0, or the number of the rule of the scope document that is broken; where an answer has
  * more cases they are named here. Where a call refuses, nothing that was lent is changed. No call keeps a pointer. */

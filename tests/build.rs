@@ -3,7 +3,7 @@
 use std::env;
 use std::path::{Path, PathBuf};
 
-const ARCHIVE: &str = "libexports.a";
+const ARCHIVE: &str = "libpaddockyear.a";
 
 fn main() {
     println!("cargo:rerun-if-changed=build.rs");
@@ -25,5 +25,5 @@ fn link(folder: &Path) {
     assert!(archive.is_file(), "no {} in {}", ARCHIVE, folder.display());
     println!("cargo:rerun-if-changed={}", archive.display());
     println!("cargo:rustc-link-search=native={}", folder.display());
-    println!("cargo:rustc-link-lib=static=exports");
+    println!("cargo:rustc-link-lib=static=paddockyear");
 }

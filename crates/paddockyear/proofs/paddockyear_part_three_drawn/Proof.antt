@@ -1,0 +1,11 @@
+-- `paddockyear::paddockyear_part_three_drawn` meets its contract: it answers the number of what the entry answers.
+use borrow.Author.Needs.{needs}
+use Rattle.paddockyear.specs.Codes.{code-of}
+use Rattle.paddockyear.proofs.paddockyear_part_three_drawn.Statement.{statement}
+use Rattle.paddockyear.proofs.paddockyear_part_three_drawn.Tie as tie
+
+returns : tie.Need-returns
+returns c = (code-of _ (c .before .before .before .part-three-drawn .ensures .0) (c .written-code .ensures), c .before .before .before .part-three-drawn .ensures .1)
+
+pub paddockyear-part-three-drawn-spec : {M : Type 1} → statement M
+paddockyear-part-three-drawn-spec = tie.close (tie.spec (λ c κs. search needs) (λ c κs. search needs) (λ c. search needs) returns)

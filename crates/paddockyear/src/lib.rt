@@ -1,0 +1,500 @@
+// The functions that C and Rust programs link, each a thin face of a proved one. A slice is a pointer and a length.
+ghost use mathlib.Core.Bool.{true, false};
+ghost use mathlib.Core.Path.{_≡_};
+ghost use mathlib.Core.List.{_++_};
+ghost use lib.ListN.{length};
+ghost use Rattle.laws.specs.Faults.{numberOf};
+ghost use Rattle.laws.specs.Lent.{before, after};
+ghost use Rattle.laws.specs.Tests.{differ, choose};
+ghost use Rattle.keccak.specs.Keccak.{keccakF};
+ghost use Rattle.sha3.specs.Sha3.{sha3-224, sha3-256};
+ghost use Rattle.protocol.specs.Terms.{parameters};
+ghost use Rattle.protocol.specs.Tablet as tablets;
+ghost use Rattle.protocol.specs.Tablet.{tabletCommand, tabletRefusal};
+ghost use Rattle.protocol.specs.Columns.{rowServer, thirdOffsets, secondHalves, rowRefusal, pairRefusal};
+ghost use Rattle.protocol.specs.Answers.{writtenNumber};
+ghost use Rattle.protocol.specs.Drawing.{challenge, drawnMask};
+ghost use Rattle.protocol.specs.Inputs.{given, partOneRefusal, partTwoRefusal, partTwoDrawnRefusal, partThreeRefusal, partThreeDrawnRefusal, afterwards};
+ghost use Rattle.protocol.specs.Servers.{firstPart, secondPart, maskFor, thirdPart, sidesFor};
+ghost use Rattle.protocol.specs.Judging.{firstFault};
+ghost use Rattle.protocol.specs.Election.{electionTwo, electionThree, electionRecord};
+ghost use Rattle.election.specs.Holding.{choiceOf, electionRefusal};
+ghost use Rattle.protocol.specs.Results.{receiptChecked, announcedVotes, announcedRefusal, distinctVotes, voteCounts, tallyRefusal, inFront, drawRefusal};
+ghost use Rattle.paddockyear.specs.Codes.{receiptCode, placeIn, outcomeNumber};
+use election::Outcome;
+use laws::Found;
+use protocol::Draw;
+use protocol::Receipt;
+use protocol::Tally;
+use protocol::Written;
+
+// Keccak-f[1600], in place.
+#[no_mangle]
+pub extern "C" fn paddockyear_keccak_f(lanes: &mut [u64; 25])
+    ensures { λ _. ⌜ after lanes ≡ keccakF (before lanes) ⌝ }
+{
+    let a = *lanes;
+    let b = keccak::permute(a);
+    *lanes = b;
+}
+
+// SHA3-224 of m.
+#[no_mangle]
+pub extern "C" fn paddockyear_sha3_224(m: &[u8], out: &mut [u8; 28])
+    ensures { λ _. ⌜ after out ≡ sha3-224 (before m) ⌝ }
+{
+    sha3::sha3_224(m, out);
+}
+
+// SHA3-256 of m.
+#[no_mangle]
+pub extern "C" fn paddockyear_sha3_256(m: &[u8], out: &mut [u8; 32])
+    ensures { λ _. ⌜ after out ≡ sha3-256 (before m) ⌝ }
+{
+    sha3::sha3_256(m, out);
+}
+
+// SHA3-224 of a message in three parts.
+#[no_mangle]
+pub extern "C" fn paddockyear_sha3_224_parts(a: &[u8], b: &[u8], c: &[u8], out: &mut [u8; 28])
+    ensures { λ _. ⌜ after out ≡ sha3-224 (before a ++ (before b ++ before c)) ⌝ }
+{
+    sha3::hash_parts(144, a, b, c, out);
+}
+
+// SHA3-256 of a message in three parts.
+#[no_mangle]
+pub extern "C" fn paddockyear_sha3_256_parts(a: &[u8], b: &[u8], c: &[u8], out: &mut [u8; 32])
+    ensures { λ _. ⌜ after out ≡ sha3-256 (before a ++ (before b ++ before c)) ⌝ }
+{
+    sha3::hash_parts(136, a, b, c, out);
+}
+
+// ---- tablet and mix servers
+
+// A writer's answer: 0, or the refusal's number.
+fn written_code(w: Written) -> u32
+    ensures { λ r. ⌜ r ≡ writtenNumber w ⌝ }
+{
+    match w {
+        Written::Done => 0,
+        Written::Refused(k) => k,
+    }
+}
+
+// A vote's ballot command and receipt.
+#[no_mangle]
+pub extern "C" fn paddockyear_tablet(
+    modulus: u32,
+    id: u32,
+    vote: u32,
+    x: u32,
+    y: u32,
+    u1: u32,
+    u2: u32,
+    u3: u32,
+    keys: &[u8],
+    command: &mut [u8],
+    receipt: &mut [u8],
+) -> u32
+    ensures answer { λ r. ⌜ r ≡ tabletRefusal modulus vote x y u1 u2 u3 (length (before keys)) (length (before command)) (length (before receipt)) ⌝ }
+    ensures command { λ _. ⌜ after command ≡ afterwards (tabletRefusal modulus vote x y u1 u2 u3 (length (before keys)) (length (before command)) (length (before receipt))) (before command) (tabletCommand modulus id vote x y u1 u2 u3 (before keys)) ⌝ }
+    ensures receipt { λ _. ⌜ after receipt ≡ afterwards (tabletRefusal modulus vote x y u1 u2 u3 (length (before keys)) (length (before command)) (length (before receipt))) (before receipt) (tablets.receipt id (tabletCommand modulus id vote x y u1 u2 u3 (before keys))) ⌝ }
+{
+    written_code(tablet::cast(modulus, id, vote, x, y, u1, u2, u3, keys, command, receipt))
+}
+
+// A row server's column.
+#[no_mangle]
+pub extern "C" fn paddockyear_row_server(
+    modulus: u32,
+    n: u32,
+    numbers: &[u32],
+    offsets: &[u32],
+    permutation: &[u16],
+    out: &mut [u32],
+) -> u32
+    ensures answer { λ r. ⌜ r ≡ rowRefusal modulus n (before numbers) (before offsets) (before permutation) (length (before out)) ⌝ }
+    ensures output { λ _. ⌜ after out ≡ afterwards (rowRefusal modulus n (before numbers) (before offsets) (before permutation) (length (before out))) (before out) (rowServer modulus (before numbers) (before offsets) (before permutation)) ⌝ }
+{
+    written_code(mixnet::row_server(modulus, n, numbers, offsets, permutation, out))
+}
+
+// Row three's offsets.
+#[no_mangle]
+pub extern "C" fn paddockyear_third_row_offsets(
+    modulus: u32,
+    n: u32,
+    first: &[u32],
+    second: &[u32],
+    out: &mut [u32],
+) -> u32
+    ensures answer { λ r. ⌜ r ≡ pairRefusal modulus n (before first) (before second) (length (before out)) ⌝ }
+    ensures output { λ _. ⌜ after out ≡ afterwards (pairRefusal modulus n (before first) (before second) (length (before out))) (before out) (thirdOffsets modulus (before first) (before second)) ⌝ }
+{
+    written_code(mixnet::third_row_offsets(modulus, n, first, second, out))
+}
+
+// The split of a row.
+#[no_mangle]
+pub extern "C" fn paddockyear_split(
+    modulus: u32,
+    n: u32,
+    numbers: &[u32],
+    first_halves: &[u32],
+    out: &mut [u32],
+) -> u32
+    ensures answer { λ r. ⌜ r ≡ pairRefusal modulus n (before numbers) (before «first_halves») (length (before out)) ⌝ }
+    ensures output { λ _. ⌜ after out ≡ afterwards (pairRefusal modulus n (before numbers) (before «first_halves») (length (before out))) (before out) (secondHalves modulus (before numbers) (before «first_halves»)) ⌝ }
+{
+    written_code(mixnet::split(modulus, n, numbers, first_halves, out))
+}
+
+// ---- the record writer
+
+// Part one.
+#[no_mangle]
+pub extern "C" fn paddockyear_part_one(
+    modulus: u32,
+    ballots: u32,
+    compared: u32,
+    ids: &[u32],
+    votes: &[u32],
+    numbers: &[u32],
+    permutations: &[u16],
+    keys: &[u8],
+    out: &mut [u8],
+) -> u32
+    ensures answer { λ r. ⌜ r ≡ partOneRefusal (given (parameters modulus ballots compared) (before ids) (before votes) (before numbers) (before permutations) (before keys)) (length (before out)) ⌝ }
+    ensures output { λ _. ⌜ after out ≡ afterwards (partOneRefusal (given (parameters modulus ballots compared) (before ids) (before votes) (before numbers) (before permutations) (before keys)) (length (before out))) (before out) (firstPart (given (parameters modulus ballots compared) (before ids) (before votes) (before numbers) (before permutations) (before keys))) ⌝ }
+{
+    written_code(board::part_one(
+        modulus,
+        ballots,
+        compared,
+        ids,
+        votes,
+        numbers,
+        permutations,
+        keys,
+        out,
+    ))
+}
+
+// Part two, mask given.
+#[no_mangle]
+pub extern "C" fn paddockyear_part_two(
+    modulus: u32,
+    ballots: u32,
+    compared: u32,
+    ids: &[u32],
+    votes: &[u32],
+    numbers: &[u32],
+    permutations: &[u16],
+    keys: &[u8],
+    dice: &[u8],
+    mask: u32,
+    out: &mut [u8],
+) -> u32
+    ensures answer { λ r. ⌜ r ≡ partTwoRefusal (given (parameters modulus ballots compared) (before ids) (before votes) (before numbers) (before permutations) (before keys)) (before dice) mask (length (before out)) ⌝ }
+    ensures output { λ _. ⌜ after out ≡ afterwards (partTwoRefusal (given (parameters modulus ballots compared) (before ids) (before votes) (before numbers) (before permutations) (before keys)) (before dice) mask (length (before out))) (before out) (secondPart (given (parameters modulus ballots compared) (before ids) (before votes) (before numbers) (before permutations) (before keys)) (before dice) mask) ⌝ }
+{
+    written_code(comparison::part_two(
+        modulus,
+        ballots,
+        compared,
+        ids,
+        votes,
+        numbers,
+        permutations,
+        keys,
+        dice,
+        mask,
+        out,
+    ))
+}
+
+// Part two, mask drawn from the dice and part one as lent.
+#[no_mangle]
+pub extern "C" fn paddockyear_part_two_drawn(
+    modulus: u32,
+    ballots: u32,
+    compared: u32,
+    ids: &[u32],
+    votes: &[u32],
+    numbers: &[u32],
+    permutations: &[u16],
+    keys: &[u8],
+    dice: &[u8],
+    one: &[u8],
+    out: &mut [u8],
+) -> u32
+    ensures answer { λ r. ⌜ r ≡ partTwoDrawnRefusal (given (parameters modulus ballots compared) (before ids) (before votes) (before numbers) (before permutations) (before keys)) (before dice) (length (before one)) (length (before out)) ⌝ }
+    ensures output { λ _. ⌜ after out ≡ afterwards (partTwoDrawnRefusal (given (parameters modulus ballots compared) (before ids) (before votes) (before numbers) (before permutations) (before keys)) (before dice) (length (before one)) (length (before out))) (before out) (secondPart (given (parameters modulus ballots compared) (before ids) (before votes) (before numbers) (before permutations) (before keys)) (before dice) (maskFor (given (parameters modulus ballots compared) (before ids) (before votes) (before numbers) (before permutations) (before keys)) (before dice) (before one))) ⌝ }
+{
+    written_code(comparison::part_two_drawn(
+        modulus,
+        ballots,
+        compared,
+        ids,
+        votes,
+        numbers,
+        permutations,
+        keys,
+        dice,
+        one,
+        out,
+    ))
+}
+
+// Part three, sides given.
+#[no_mangle]
+pub extern "C" fn paddockyear_part_three(
+    modulus: u32,
+    ballots: u32,
+    compared: u32,
+    ids: &[u32],
+    votes: &[u32],
+    numbers: &[u32],
+    permutations: &[u16],
+    keys: &[u8],
+    dice: &[u8],
+    mask: u32,
+    sides: &[u8],
+    out: &mut [u8],
+) -> u32
+    ensures answer { λ r. ⌜ r ≡ partThreeRefusal (given (parameters modulus ballots compared) (before ids) (before votes) (before numbers) (before permutations) (before keys)) (before dice) mask (before sides) (length (before out)) ⌝ }
+    ensures output { λ _. ⌜ after out ≡ afterwards (partThreeRefusal (given (parameters modulus ballots compared) (before ids) (before votes) (before numbers) (before permutations) (before keys)) (before dice) mask (before sides) (length (before out))) (before out) (thirdPart (given (parameters modulus ballots compared) (before ids) (before votes) (before numbers) (before permutations) (before keys)) (before dice) mask (before sides)) ⌝ }
+{
+    written_code(disclosure::part_three(
+        modulus,
+        ballots,
+        compared,
+        ids,
+        votes,
+        numbers,
+        permutations,
+        keys,
+        dice,
+        mask,
+        sides,
+        out,
+    ))
+}
+
+// Part three, sides drawn from the dice and parts one and two as lent.
+#[no_mangle]
+pub extern "C" fn paddockyear_part_three_drawn(
+    modulus: u32,
+    ballots: u32,
+    compared: u32,
+    ids: &[u32],
+    votes: &[u32],
+    numbers: &[u32],
+    permutations: &[u16],
+    keys: &[u8],
+    dice: &[u8],
+    mask: u32,
+    one: &[u8],
+    two: &[u8],
+    out: &mut [u8],
+) -> u32
+    ensures answer { λ r. ⌜ r ≡ partThreeDrawnRefusal (given (parameters modulus ballots compared) (before ids) (before votes) (before numbers) (before permutations) (before keys)) (before dice) mask (length (before one)) (length (before two)) (length (before out)) ⌝ }
+    ensures output { λ _. ⌜ after out ≡ afterwards (partThreeDrawnRefusal (given (parameters modulus ballots compared) (before ids) (before votes) (before numbers) (before permutations) (before keys)) (before dice) mask (length (before one)) (length (before two)) (length (before out))) (before out) (thirdPart (given (parameters modulus ballots compared) (before ids) (before votes) (before numbers) (before permutations) (before keys)) (before dice) mask (sidesFor (given (parameters modulus ballots compared) (before ids) (before votes) (before numbers) (before permutations) (before keys)) (before dice) (before one) (before two))) ⌝ }
+{
+    written_code(disclosure::part_three_drawn(
+        modulus,
+        ballots,
+        compared,
+        ids,
+        votes,
+        numbers,
+        permutations,
+        keys,
+        dice,
+        mask,
+        one,
+        two,
+        out,
+    ))
+}
+
+// The mask that part two draws; `mask` is as it was on a refusal.
+#[no_mangle]
+pub extern "C" fn paddockyear_draw_mask(
+    modulus: u32,
+    ballots: u32,
+    compared: u32,
+    dice: &[u8],
+    one: &[u8],
+    mask: &mut u32,
+) -> u32
+    ensures answer { λ r. ⌜ r ≡ drawRefusal (record { modulus = modulus; ballots = ballots; compared = compared }) (before dice) (length (before one)) ⌝ }
+    ensures mask { λ _. ⌜ after mask ≡ choose (drawRefusal (record { modulus = modulus; ballots = ballots; compared = compared }) (before dice) (length (before one))) (drawnMask compared (challenge (before dice) (before one))) (before mask) ⌝ }
+{
+    match comparison::draw(modulus, ballots, compared, dice, one) {
+        Draw::Refused(k) => k,
+        Draw::Mask(drawn) => {
+            *mask = drawn;
+            0
+        }
+    }
+}
+
+// An election's answer: 0 for accepted, else the number.
+fn outcome_code(o: Outcome) -> u32
+    ensures { λ r. ⌜ r ≡ outcomeNumber o ⌝ }
+{
+    match o {
+        Outcome::Accepted => 0,
+        Outcome::Refused(k) => k,
+        Outcome::Rejected(k) => k,
+    }
+}
+
+// The three calls and the judge as one election: 0 for a record that is written and accepted, else the refusal's number. `mask_given` and
+// `sides_given` are 0 where mask or sides are to be drawn.
+#[no_mangle]
+pub extern "C" fn paddockyear_election(
+    mask_given: u32,
+    sides_given: u32,
+    modulus: u32,
+    ballots: u32,
+    compared: u32,
+    ids: &[u32],
+    votes: &[u32],
+    numbers: &[u32],
+    permutations: &[u16],
+    keys: &[u8],
+    first_dice: &[u8],
+    mask: u32,
+    second_dice: &[u8],
+    sides: &[u8],
+    one: &mut [u8],
+    two: &mut [u8],
+    three: &mut [u8],
+    joined: &mut [u8],
+) -> u32
+    ensures answer { λ r. ⌜ r ≡ (electionRefusal (given (parameters modulus ballots compared) (before ids) (before votes) (before numbers) (before permutations) (before keys)) (choiceOf (differ «mask_given» 0) mask) (before «first_dice») (choiceOf (differ «sides_given» 0) (before sides)) (before «second_dice») (length (before one)) (length (before two)) (length (before three)) (length (before joined))) ⌝ }
+    ensures one { λ _. ⌜ after one ≡ afterwards (electionRefusal (given (parameters modulus ballots compared) (before ids) (before votes) (before numbers) (before permutations) (before keys)) (choiceOf (differ «mask_given» 0) mask) (before «first_dice») (choiceOf (differ «sides_given» 0) (before sides)) (before «second_dice») (length (before one)) (length (before two)) (length (before three)) (length (before joined))) (before one) (firstPart (given (parameters modulus ballots compared) (before ids) (before votes) (before numbers) (before permutations) (before keys))) ⌝ }
+    ensures two { λ _. ⌜ after two ≡ afterwards (electionRefusal (given (parameters modulus ballots compared) (before ids) (before votes) (before numbers) (before permutations) (before keys)) (choiceOf (differ «mask_given» 0) mask) (before «first_dice») (choiceOf (differ «sides_given» 0) (before sides)) (before «second_dice») (length (before one)) (length (before two)) (length (before three)) (length (before joined))) (before two) (electionTwo (given (parameters modulus ballots compared) (before ids) (before votes) (before numbers) (before permutations) (before keys)) (choiceOf (differ «mask_given» 0) mask) (before «first_dice»)) ⌝ }
+    ensures three { λ _. ⌜ after three ≡ afterwards (electionRefusal (given (parameters modulus ballots compared) (before ids) (before votes) (before numbers) (before permutations) (before keys)) (choiceOf (differ «mask_given» 0) mask) (before «first_dice») (choiceOf (differ «sides_given» 0) (before sides)) (before «second_dice») (length (before one)) (length (before two)) (length (before three)) (length (before joined))) (before three) (electionThree (given (parameters modulus ballots compared) (before ids) (before votes) (before numbers) (before permutations) (before keys)) (choiceOf (differ «mask_given» 0) mask) (before «first_dice») (choiceOf (differ «sides_given» 0) (before sides)) (before «second_dice»)) ⌝ }
+    ensures joined { λ _. ⌜ after joined ≡ afterwards (electionRefusal (given (parameters modulus ballots compared) (before ids) (before votes) (before numbers) (before permutations) (before keys)) (choiceOf (differ «mask_given» 0) mask) (before «first_dice») (choiceOf (differ «sides_given» 0) (before sides)) (before «second_dice») (length (before one)) (length (before two)) (length (before three)) (length (before joined))) (before joined) (electionRecord (given (parameters modulus ballots compared) (before ids) (before votes) (before numbers) (before permutations) (before keys)) (choiceOf (differ «mask_given» 0) mask) (before «first_dice») (choiceOf (differ «sides_given» 0) (before sides)) (before «second_dice»)) ⌝ }
+{
+    outcome_code(election::hold(
+        mask_given != 0,
+        sides_given != 0,
+        modulus,
+        ballots,
+        compared,
+        ids,
+        votes,
+        numbers,
+        permutations,
+        keys,
+        first_dice,
+        mask,
+        second_dice,
+        sides,
+        one,
+        two,
+        three,
+        joined,
+    ))
+}
+
+// ---- the verifier
+
+// The number of a fault, 0 for none.
+fn number_of(f: Found) -> u32
+    ensures { λ r. ⌜ r ≡ numberOf f ⌝ }
+{
+    match f {
+        Found::Nothing => 0,
+        Found::Fault(k, _) => k,
+    }
+}
+
+// Plain judging: 0 for accepted, else the number of the first rule broken.
+#[no_mangle]
+pub extern "C" fn paddockyear_judge_plainly(bytes: &[u8]) -> u32
+    ensures { λ r. ⌜ r ≡ numberOf (firstFault false (before bytes)) ⌝ }
+{
+    number_of(verifier::first_fault(bytes, false))
+}
+
+// Drawn judging, answered in the same way.
+#[no_mangle]
+pub extern "C" fn paddockyear_judge_as_drawn(bytes: &[u8]) -> u32
+    ensures { λ r. ⌜ r ≡ numberOf (firstFault true (before bytes)) ⌝ }
+{
+    number_of(verifier::first_fault(bytes, true))
+}
+
+// The first fault's number, and the place where its command starts; `place` is as it was where there is no fault. `drawn` is 0 for plain
+// judging.
+#[no_mangle]
+pub extern "C" fn paddockyear_first_fault(bytes: &[u8], drawn: u32, place: &mut u64) -> u32
+    ensures number { λ r. ⌜ r ≡ numberOf (firstFault (differ drawn 0) (before bytes)) ⌝ }
+    ensures place { λ _. ⌜ after place ≡ placeIn (firstFault (differ drawn 0) (before bytes)) (before place) ⌝ }
+{
+    match verifier::first_fault(bytes, drawn != 0) {
+        Found::Nothing => 0,
+        Found::Fault(k, at) => {
+            *place = at as u64;
+            k
+        }
+    }
+}
+
+// The tally of votes that do not fall; `pairs` is how many pairs were written, and as it was on a refusal.
+#[no_mangle]
+pub extern "C" fn paddockyear_tally(
+    votes: &[u32],
+    values: &mut [u32],
+    counts: &mut [u32],
+    pairs: &mut u64,
+) -> u32
+    ensures answer { λ r. ⌜ r ≡ tallyRefusal (before votes) (length (before values)) (length (before counts)) ⌝ }
+    ensures pairs { λ _. ⌜ after pairs ≡ choose (tallyRefusal (before votes) (length (before values)) (length (before counts))) (length (distinctVotes (before votes))) (before pairs) ⌝ }
+    ensures values { λ _. ⌜ after values ≡ afterwards (tallyRefusal (before votes) (length (before values)) (length (before counts))) (before values) (inFront (distinctVotes (before votes)) (before values)) ⌝ }
+    ensures counts { λ _. ⌜ after counts ≡ afterwards (tallyRefusal (before votes) (length (before values)) (length (before counts))) (before counts) (inFront (voteCounts (before votes)) (before counts)) ⌝ }
+{
+    match tally::tally(votes, values, counts) {
+        Tally::Refused(k) => k,
+        Tally::Pairs(k) => {
+            *pairs = k as u64;
+            0
+        }
+    }
+}
+
+// ---- results
+
+// 0 posted as printed, 101 posted otherwise, 102 not posted, else the refusal's number.
+#[no_mangle]
+pub extern "C" fn paddockyear_check_receipt(bytes: &[u8], printed: &[u8]) -> u32
+    ensures { λ r. ⌜ r ≡ receiptCode (receiptChecked (before bytes) (before printed)) ⌝ }
+{
+    receipt_code(results::check_receipt(bytes, printed))
+}
+
+fn receipt_code(answer: Receipt) -> u32
+    ensures { λ r. ⌜ r ≡ receiptCode answer ⌝ }
+{
+    match answer {
+        Receipt::AsPrinted => 0,
+        Receipt::Otherwise => 101,
+        Receipt::NotPosted => 102,
+        Receipt::Refused(k) => k,
+    }
+}
+
+// The announced votes of an accepted record.
+#[no_mangle]
+pub extern "C" fn paddockyear_announced_votes(bytes: &[u8], out: &mut [u32]) -> u32
+    ensures answer { λ r. ⌜ r ≡ announcedRefusal (before bytes) (length (before out)) ⌝ }
+    ensures output { λ _. ⌜ after out ≡ afterwards (announcedRefusal (before bytes) (length (before out))) (before out) (announcedVotes (before bytes)) ⌝ }
+{
+    written_code(results::announced_votes(bytes, out))
+}
