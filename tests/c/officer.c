@@ -9,31 +9,29 @@
 #include <stdlib.h>
 #include <string.h>
 
-enum { MODULUS = 9, BALLOTS = 3, COMPARED = 2, PLACES = COMPARED * BALLOTS };
-enum { NUMBERS = 5, KEYS = 192, COMMAND = 197, RECEIPT = 32 }; /* of one ballot */
-enum { DICE = 30, MASK_PLACE = 31, BALLOTS_PLACE = 8 };
-enum {
-    PART_ONE = 8 + COMMAND * BALLOTS + 392 * PLACES,
-    PART_TWO = 35 + 10 * PLACES,
-    PART_THREE = 32 + 119 * BALLOTS + 332 * PLACES,
-    JOINED = PART_ONE + PART_TWO + PART_THREE
-};
+enum { MODULUS = 9, BALLOTS = 3, COMPARED = 2 };
+enum { NUMBERS = 5, KEYS = PADDOCKYEAR_BALLOT_KEYS_LENGTH, RECEIPT = PADDOCKYEAR_RECEIPT_LENGTH }; /* of one ballot */
+enum { DICE = PADDOCKYEAR_DICE_LENGTH, MASK_PLACE = 31, BALLOTS_PLACE = 8 };
 
-_Static_assert(JOINED == 75 + 316 * BALLOTS + 734 * PLACES, "a record has this length");
-
-/* An array as a lent slice, and the inputs of every part. */
-#define LENT(array) (array), sizeof(array) / sizeof((array)[0])
-#define SHAPE MODULUS, BALLOTS, COMPARED
-#define INPUTS SHAPE, LENT(ids), LENT(votes), LENT(numbers), LENT(permutations), LENT(keys)
+/* An array as a lent slice. */
+#define LENGTH(array) (sizeof(array) / sizeof((array)[0]))
+#define LENT(array) (array), LENGTH(array)
 
 static const uint32_t ids[BALLOTS] = {1001, 1002, 1005}, votes[BALLOTS] = {5, 2, 5};
-static uint32_t numbers[NUMBERS * BALLOTS + 18 * PLACES];
-static uint16_t permutations[6 * PLACES];
-static uint8_t keys[KEYS * BALLOTS + 384 * PLACES];
+static uint32_t numbers[PADDOCKYEAR_NUMBERS_LENGTH(BALLOTS, COMPARED)];
+static uint16_t permutations[PADDOCKYEAR_PERMUTATIONS_LENGTH(BALLOTS, COMPARED)];
+static uint8_t keys[PADDOCKYEAR_KEYS_LENGTH(BALLOTS, COMPARED)];
 static uint8_t first_dice[DICE], second_dice[DICE];
 
-static uint8_t commands[BALLOTS][COMMAND], receipts[BALLOTS][RECEIPT];
-static uint8_t one[PART_ONE], two[PART_TWO], three[PART_THREE], joined[JOINED];
+static uint8_t commands[BALLOTS][PADDOCKYEAR_COMMAND_LENGTH], receipts[BALLOTS][RECEIPT];
+static uint8_t one[PADDOCKYEAR_PART_ONE_LENGTH(BALLOTS, COMPARED)], two[PADDOCKYEAR_PART_TWO_LENGTH(BALLOTS, COMPARED)];
+static uint8_t three[PADDOCKYEAR_PART_THREE_LENGTH(BALLOTS, COMPARED)], joined[PADDOCKYEAR_RECORD_LENGTH(BALLOTS, COMPARED)];
+
+/* What the servers are given, what comes from the dice table (mask and sides are drawn), and where the parts stand. */
+static const struct paddockyear_inputs inputs = {MODULUS,       BALLOTS,            COMPARED,  LENT(ids), LENT(votes),
+                                                 LENT(numbers), LENT(permutations), LENT(keys)};
+static const struct paddockyear_throws throws = {LENT(first_dice), LENT(second_dice), 0, 0, 0, NULL, 0};
+static const struct paddockyear_parts parts = {LENT(one), LENT(two), LENT(three), LENT(joined)};
 
 static void demand(int holds, const char *what) {
     if (!holds) {
@@ -64,9 +62,9 @@ static void shuffle(uint16_t permutation[BALLOTS]) {
 }
 
 static void make_inputs(void) {
-    for (size_t i = 0; i < sizeof numbers / sizeof *numbers; i++) numbers[i] = below(MODULUS);
-    for (size_t i = 0; i < 6 * PLACES; i += BALLOTS) shuffle(permutations + i);
-    for (size_t i = 0; i < sizeof keys; i++) keys[i] = (uint8_t)below(256);
+    for (size_t i = 0; i < LENGTH(numbers); i++) numbers[i] = below(MODULUS);
+    for (size_t i = 0; i < LENGTH(permutations); i += BALLOTS) shuffle(permutations + i);
+    for (size_t i = 0; i < LENGTH(keys); i++) keys[i] = (uint8_t)below(256);
     for (size_t i = 0; i < DICE; i++) first_dice[i] = (uint8_t)('1' + below(6));
     for (size_t i = 0; i < DICE; i++) second_dice[i] = (uint8_t)('1' + below(6));
 }
@@ -86,15 +84,10 @@ static void cast_votes(void) {
     }
 }
 
-/* Mask and sides are drawn from the dice: what is lent in their place is not looked at. */
 static void hold_election(void) {
-    static const uint8_t no_sides[BALLOTS] = {0};
     uint32_t mask = 0;
-    uint32_t answer =
-        paddockyear_election(0, 0, INPUTS, LENT(first_dice), 0, LENT(second_dice), LENT(no_sides),
-                             LENT(one), LENT(two), LENT(three), LENT(joined));
-    expect(0, answer, "election");
-    expect(0, paddockyear_draw_mask(SHAPE, LENT(first_dice), LENT(one), &mask), "draw_mask");
+    expect(0, paddockyear_hold(&inputs, &throws, &parts), "election");
+    expect(0, paddockyear_drawn_mask(&inputs, &throws, &parts, &mask), "draw_mask");
     demand(number_at(two + MASK_PLACE) == mask, "part two has the drawn mask");
     printf("election held, mask drawn: %" PRIu32 "\n", mask);
     demand(memcmp(one + BALLOTS_PLACE, commands, sizeof commands) == 0, "the ballots are as cast");
@@ -128,11 +121,10 @@ static void count_votes(void) {
 }
 
 static void be_refused(void) {
-    static uint8_t out[PART_ONE];
     permutations[0] = permutations[1];
-    memset(out, 0xA5, sizeof out);
-    expect(19, paddockyear_part_one(INPUTS, LENT(out)), "part_one");
-    for (size_t i = 0; i < sizeof out; i++) demand(out[i] == 0xA5, "the buffer is unchanged");
+    memset(one, 0xA5, sizeof one);
+    expect(19, paddockyear_write_one(&inputs, &parts), "part_one");
+    for (size_t i = 0; i < sizeof one; i++) demand(one[i] == 0xA5, "the buffer is unchanged");
     printf("a permutation that is none: refused with 19, the buffer unchanged\n");
 }
 

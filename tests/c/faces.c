@@ -1,0 +1,303 @@
+/* What include/paddockyear.h says beside the calls that officer.c makes: the words for each number, the lengths, empty slices with null
+ * pointers, inputs that overlap, lane order, places of faults, what lies behind a tally's last pair, and the functions over structs beside
+ * the long ones. It is compiled as C99 and as C++; a call that answers anything else than due ends it with 1. */
+
+#include "paddockyear.h"
+
+#include <stdio.h>
+#include <stdlib.h>
+#include <string.h>
+
+enum { M = 9, N = 3, COMPARED = 2 };
+
+#define LENGTH(array) (sizeof(array) / sizeof((array)[0]))
+#define LENT(array) (array), LENGTH(array)
+#define NONE NULL, 0
+#define EXPECT(due, call) expect(due, call, #call)
+
+static uint32_t ids[N] = {1, 2, 5}, votes[N] = {5, 2, 5}, numbers[PADDOCKYEAR_NUMBERS_LENGTH(N, COMPARED)];
+static uint16_t permutations[PADDOCKYEAR_PERMUTATIONS_LENGTH(N, COMPARED)];
+static uint8_t keys[PADDOCKYEAR_KEYS_LENGTH(N, COMPARED)], sides[N] = {1, 0, 1};
+static uint8_t dice[PADDOCKYEAR_DICE_LENGTH + 1] = "123456123456123456123456123456";
+
+static uint8_t one[PADDOCKYEAR_PART_ONE_LENGTH(N, COMPARED)], two[PADDOCKYEAR_PART_TWO_LENGTH(N, COMPARED)];
+static uint8_t three[PADDOCKYEAR_PART_THREE_LENGTH(N, COMPARED)], joined[PADDOCKYEAR_RECORD_LENGTH(N, COMPARED) + 1];
+
+static unsigned calls;
+
+static void expect(uint32_t due, uint32_t answer, const char *call) {
+    calls++;
+    if (answer == due) return;
+    fprintf(stderr, "%s is %lu, not %lu\n", call, (unsigned long)answer, (unsigned long)due);
+    exit(1);
+}
+
+static void report(const char *what) {
+    printf("%s: as said, in %u answers\n", what, calls);
+    calls = 0;
+}
+
+static struct paddockyear_inputs lent_inputs(void) {
+    struct paddockyear_inputs in = {M, N, COMPARED, LENT(ids), LENT(votes), LENT(numbers), LENT(permutations), LENT(keys)};
+    return in;
+}
+
+static struct paddockyear_throws lent_throws(void) {
+    struct paddockyear_throws throws = {dice, PADDOCKYEAR_DICE_LENGTH, dice, PADDOCKYEAR_DICE_LENGTH, 1, 5, 1, LENT(sides)};
+    return throws;
+}
+
+static struct paddockyear_parts lent_parts(void) {
+    struct paddockyear_parts parts = {LENT(one), LENT(two), LENT(three), joined, PADDOCKYEAR_RECORD_LENGTH(N, COMPARED)};
+    return parts;
+}
+
+static void say_rules(void) {
+    static const uint32_t others[] = {20, 100, 101, 102, 103, UINT32_MAX};
+    for (uint32_t number = 0; number < 20; number++) printf("%lu %s\n", (unsigned long)number, paddockyear_rule(number));
+    for (size_t i = 0; i < LENGTH(others); i++) printf("%lu %s\n", (unsigned long)others[i], paddockyear_rule(others[i]));
+}
+
+/* The lengths of the scope document's samples, and the widest. */
+static void try_lengths(void) {
+    EXPECT(1125, (uint32_t)PADDOCKYEAR_RECORD_LENGTH(1, 1));
+    EXPECT(14347, (uint32_t)PADDOCKYEAR_RECORD_LENGTH(8, 2));
+    EXPECT(9343051, (uint32_t)PADDOCKYEAR_RECORD_LENGTH(PADDOCKYEAR_MOST_BALLOTS, PADDOCKYEAR_MOST_COMPARED));
+    EXPECT((uint32_t)PADDOCKYEAR_RECORD_LENGTH(N, COMPARED), (uint32_t)(sizeof one + sizeof two + sizeof three));
+    report("lengths");
+}
+
+static void fill_inputs(void) {
+    for (size_t i = 0; i < LENGTH(numbers); i++) numbers[i] = (uint32_t)(7 * i + i / 5) % M;
+    for (size_t i = 0; i < LENGTH(permutations); i++) permutations[i] = (uint16_t)((i + i / N) % N);
+    for (size_t i = 0; i < LENGTH(keys); i++) keys[i] = (uint8_t)(i * i / 3);
+}
+
+/* The first and the last byte of a digest. */
+static uint32_t ends(const uint8_t *digest, size_t length) { return (uint32_t)digest[0] << 8 | digest[length - 1]; }
+
+/* Of the empty message, from FIPS 202's examples. */
+static void hash_nothing(void) {
+    uint8_t digest[32];
+    paddockyear_sha3_224(NONE, digest);
+    EXPECT(0x6BC7, ends(digest, 28));
+    paddockyear_sha3_224_parts(NONE, NONE, NONE, digest);
+    EXPECT(0x6BC7, ends(digest, 28));
+    paddockyear_sha3_256(NONE, digest);
+    EXPECT(0xA74A, ends(digest, 32));
+    paddockyear_sha3_256_parts(NONE, NONE, NONE, digest);
+    EXPECT(0xA74A, ends(digest, 32));
+    report("hashes of null pointers with length 0");
+}
+
+/* The permutation of zeros, from the Keccak team's vectors: lane (0, 0), lane (1, 0), lane (0, 1). */
+static void permute_zeros(void) {
+    uint64_t lanes[25] = {0};
+    paddockyear_keccak_f(lanes);
+    EXPECT(1, lanes[0] == UINT64_C(0xF1258F7940E1DDE7));
+    EXPECT(1, lanes[1] == UINT64_C(0x84D5CCF933C0478A));
+    EXPECT(1, lanes[5] == UINT64_C(0xFF97A42D7F8E6FD4));
+    report("order of lanes");
+}
+
+static void lend_nothing_to_tablet_and_mix(void) {
+    uint8_t command[PADDOCKYEAR_COMMAND_LENGTH], receipt[PADDOCKYEAR_RECEIPT_LENGTH];
+    uint32_t row[N] = {5, 6, 7}, out[N];
+    EXPECT(18, paddockyear_tablet(M, 1, 1, 1, 1, 1, 1, 1, NONE, LENT(command), LENT(receipt)));
+    EXPECT(18, paddockyear_tablet(M, 1, 1, 1, 1, 1, 1, 1, keys, PADDOCKYEAR_BALLOT_KEYS_LENGTH, NONE, LENT(receipt)));
+    EXPECT(18, paddockyear_tablet(M, 1, 1, 1, 1, 1, 1, 1, keys, PADDOCKYEAR_BALLOT_KEYS_LENGTH, LENT(command), NONE));
+    EXPECT(18, paddockyear_tablet(M, 1, 1, 1, 1, 1, 1, 1, NONE, NONE, NONE));
+    EXPECT(3, paddockyear_tablet(1, 1, 1, 1, 1, 1, 1, 1, NONE, NONE, NONE));
+    EXPECT(18, paddockyear_row_server(M, N, NONE, LENT(row), permutations, N, LENT(out)));
+    EXPECT(18, paddockyear_row_server(M, N, LENT(row), NONE, permutations, N, LENT(out)));
+    EXPECT(18, paddockyear_row_server(M, N, LENT(row), LENT(row), NONE, LENT(out)));
+    EXPECT(18, paddockyear_row_server(M, N, LENT(row), LENT(row), permutations, N, NONE));
+    EXPECT(3, paddockyear_row_server(M, 0, NONE, NONE, NONE, NONE));
+    EXPECT(18, paddockyear_third_row_offsets(M, N, NONE, LENT(row), LENT(out)));
+    EXPECT(18, paddockyear_third_row_offsets(M, N, LENT(row), NONE, LENT(out)));
+    EXPECT(18, paddockyear_third_row_offsets(M, N, LENT(row), LENT(row), NONE));
+    EXPECT(3, paddockyear_third_row_offsets(M, 0, NONE, NONE, NONE));
+    EXPECT(18, paddockyear_split(M, N, NONE, LENT(row), LENT(out)));
+    EXPECT(18, paddockyear_split(M, N, LENT(row), NONE, LENT(out)));
+    EXPECT(18, paddockyear_split(M, N, LENT(row), LENT(row), NONE));
+    EXPECT(3, paddockyear_split(M, 0, NONE, NONE, NONE));
+    report("null pointers to tablet and mix servers");
+}
+
+/* The answer of every call of the record writer, each due. */
+static void write_by_all(uint32_t due, const struct paddockyear_inputs *in, const struct paddockyear_throws *throws,
+                         const struct paddockyear_parts *parts) {
+    EXPECT(due, paddockyear_write_one(in, parts));
+    EXPECT(due, paddockyear_write_two(in, throws, parts));
+    EXPECT(due, paddockyear_write_two_drawn(in, throws, parts));
+    EXPECT(due, paddockyear_write_three(in, throws, parts));
+    EXPECT(due, paddockyear_write_three_drawn(in, throws, parts));
+    EXPECT(due, paddockyear_hold(in, throws, parts));
+}
+
+/* One slice of the inputs at a time, then all slices. */
+static void lend_no_inputs(void) {
+    struct paddockyear_throws throws = lent_throws(), no_throws = {NONE, NONE, 1, 5, 1, NONE};
+    struct paddockyear_parts parts = lent_parts(), no_parts = {NONE, NONE, NONE, NONE};
+    struct paddockyear_inputs without_ids = lent_inputs(), without_votes = lent_inputs(), without_numbers = lent_inputs();
+    struct paddockyear_inputs without_permutations = lent_inputs(), without_keys = lent_inputs();
+    struct paddockyear_inputs nothing = {M, N, COMPARED, NONE, NONE, NONE, NONE, NONE}, no_limits = nothing;
+    without_ids.ids = NULL, without_ids.ids_length = 0;
+    without_votes.votes = NULL, without_votes.votes_length = 0;
+    without_numbers.numbers = NULL, without_numbers.numbers_length = 0;
+    without_permutations.permutations = NULL, without_permutations.permutations_length = 0;
+    without_keys.keys = NULL, without_keys.keys_length = 0;
+    no_limits.ballots = 0;
+    write_by_all(18, &without_ids, &throws, &parts);
+    write_by_all(18, &without_votes, &throws, &parts);
+    write_by_all(18, &without_numbers, &throws, &parts);
+    write_by_all(18, &without_permutations, &throws, &parts);
+    write_by_all(18, &without_keys, &throws, &parts);
+    write_by_all(18, &nothing, &no_throws, &no_parts);
+    write_by_all(3, &no_limits, &no_throws, &no_parts);
+    report("null pointers for the servers' inputs");
+}
+
+/* Dice, sides and buffers, one at a time. Sides that are drawn are not looked at. */
+static void lend_no_throws_or_parts(void) {
+    struct paddockyear_inputs in = lent_inputs();
+    struct paddockyear_throws throws = lent_throws(), first = throws, second = throws, no_sides = throws;
+    struct paddockyear_parts parts = lent_parts(), no_one = parts, no_two = parts, no_three = parts, no_join = parts;
+    uint32_t mask = 0;
+    first.first_dice = NULL, first.first_dice_length = 0;
+    second.second_dice = NULL, second.second_dice_length = 0;
+    no_sides.sides = NULL, no_sides.sides_length = 0;
+    no_one.one = NULL, no_one.one_length = 0;
+    no_two.two = NULL, no_two.two_length = 0;
+    no_three.three = NULL, no_three.three_length = 0;
+    no_join.joined = NULL, no_join.joined_length = 0;
+    EXPECT(18, paddockyear_write_one(&in, &no_one));
+    EXPECT(18, paddockyear_write_two(&in, &first, &parts));
+    EXPECT(18, paddockyear_write_two(&in, &throws, &no_two));
+    EXPECT(18, paddockyear_write_two_drawn(&in, &first, &parts));
+    EXPECT(18, paddockyear_write_two_drawn(&in, &throws, &no_one));
+    EXPECT(18, paddockyear_write_two_drawn(&in, &throws, &no_two));
+    EXPECT(18, paddockyear_drawn_mask(&in, &first, &parts, &mask));
+    EXPECT(18, paddockyear_drawn_mask(&in, &throws, &no_one, &mask));
+    EXPECT(0, mask);
+    EXPECT(18, paddockyear_write_three(&in, &second, &parts));
+    EXPECT(18, paddockyear_write_three(&in, &no_sides, &parts));
+    EXPECT(18, paddockyear_write_three(&in, &throws, &no_three));
+    EXPECT(18, paddockyear_write_three_drawn(&in, &second, &parts));
+    EXPECT(18, paddockyear_write_three_drawn(&in, &throws, &no_one));
+    EXPECT(18, paddockyear_write_three_drawn(&in, &throws, &no_two));
+    EXPECT(18, paddockyear_write_three_drawn(&in, &throws, &no_three));
+    EXPECT(18, paddockyear_hold(&in, &first, &parts));
+    EXPECT(18, paddockyear_hold(&in, &second, &parts));
+    EXPECT(18, paddockyear_hold(&in, &no_sides, &parts));
+    EXPECT(18, paddockyear_hold(&in, &throws, &no_one));
+    EXPECT(18, paddockyear_hold(&in, &throws, &no_two));
+    EXPECT(18, paddockyear_hold(&in, &throws, &no_three));
+    EXPECT(18, paddockyear_hold(&in, &throws, &no_join));
+    no_sides.sides_given = 0;
+    EXPECT(0, paddockyear_hold(&in, &no_sides, &parts));
+    report("null pointers for dice, sides and buffers");
+}
+
+/* The parts of single calls, joined, are the record of one call: mask and sides given, then drawn. */
+static void write_parts(void) {
+    static uint8_t again[PADDOCKYEAR_RECORD_LENGTH(N, COMPARED)];
+    struct paddockyear_inputs in = lent_inputs();
+    struct paddockyear_throws throws = lent_throws();
+    struct paddockyear_parts parts = lent_parts(), pieces = parts;
+    pieces.one = again, pieces.two = pieces.one + sizeof one, pieces.three = pieces.two + sizeof two;
+    EXPECT(0, paddockyear_hold(&in, &throws, &parts));
+    EXPECT(0, paddockyear_write_one(&in, &pieces));
+    EXPECT(0, paddockyear_write_two(&in, &throws, &pieces));
+    EXPECT(0, paddockyear_write_three(&in, &throws, &pieces));
+    EXPECT(0, (uint32_t)memcmp(again, joined, sizeof again));
+    throws.mask_given = throws.sides_given = 0;
+    EXPECT(0, paddockyear_hold(&in, &throws, &parts));
+    EXPECT(0, paddockyear_write_two_drawn(&in, &throws, &pieces));
+    EXPECT(0, paddockyear_drawn_mask(&in, &throws, &pieces, &throws.mask));
+    EXPECT(0, paddockyear_write_three_drawn(&in, &throws, &pieces));
+    EXPECT(0, (uint32_t)memcmp(again, joined, sizeof again));
+    EXPECT(0, paddockyear_judge_as_drawn(LENT(again)));
+    report("functions over structs");
+}
+
+/* One slice as two inputs, and one throw of the dice for both. */
+static void lend_one_slice_twice(void) {
+    struct paddockyear_inputs in = lent_inputs();
+    struct paddockyear_throws throws = lent_throws();
+    struct paddockyear_parts parts = lent_parts();
+    uint32_t row[N] = {5, 6, 7}, out[N];
+    in.votes = in.ids;
+    write_by_all(0, &in, &throws, &parts);
+    EXPECT(0, paddockyear_row_server(M, N, LENT(row), LENT(row), permutations, N, LENT(out)));
+    EXPECT(0, paddockyear_split(M, N, LENT(row), LENT(row), LENT(out)));
+    EXPECT(0, out[0] + out[1] + out[2]);
+    report("inputs that overlap");
+}
+
+/* joined holds an accepted record, with room for one byte behind it. */
+static void find_faults(void) {
+    size_t length = sizeof joined - 1;
+    uint64_t place = 77;
+    EXPECT(0, paddockyear_first_fault(joined, length, 0, &place));
+    EXPECT(77, (uint32_t)place);
+    EXPECT(17, paddockyear_first_fault(joined, length + 1, 0, &place));
+    EXPECT((uint32_t)length, (uint32_t)place);
+    EXPECT(1, paddockyear_first_fault(joined, length - 1, 0, &place)); /* no byte left for 0B */
+    EXPECT((uint32_t)length - 1, (uint32_t)place);
+    EXPECT(1, paddockyear_first_fault(joined, 9, 0, &place)); /* inside the first ballot */
+    EXPECT(8, (uint32_t)place);
+    EXPECT(1, paddockyear_first_fault(NONE, 0, &place));
+    EXPECT(0, (uint32_t)place);
+    EXPECT(1, paddockyear_first_fault(NONE, 1, &place));
+    EXPECT(1, paddockyear_judge_plainly(NONE));
+    EXPECT(1, paddockyear_judge_as_drawn(NONE));
+    report("places of faults, and records of length 0");
+}
+
+static void take_results(void) {
+    uint8_t receipt[PADDOCKYEAR_RECEIPT_LENGTH] = {0};
+    size_t length = sizeof joined - 1;
+    uint32_t out[N], values[N] = {90, 91, 92}, counts[N] = {80, 81, 82};
+    uint64_t pairs = 77;
+    EXPECT(18, paddockyear_check_receipt(NONE, NONE));
+    EXPECT(18, paddockyear_check_receipt(joined, length, NONE));
+    EXPECT(1, paddockyear_check_receipt(NONE, LENT(receipt)));
+    EXPECT(PADDOCKYEAR_NOT_POSTED, paddockyear_check_receipt(joined, length, LENT(receipt)));
+    receipt[3] = 1;
+    EXPECT(PADDOCKYEAR_POSTED_OTHERWISE, paddockyear_check_receipt(joined, length, LENT(receipt)));
+    EXPECT(1, paddockyear_announced_votes(NONE, NONE));
+    EXPECT(18, paddockyear_announced_votes(joined, length, NONE));
+    EXPECT(0, paddockyear_announced_votes(joined, length, LENT(out)));
+    EXPECT(18, paddockyear_tally(LENT(out), NONE, LENT(counts), &pairs));
+    EXPECT(18, paddockyear_tally(LENT(out), LENT(values), NONE, &pairs));
+    EXPECT(77, (uint32_t)pairs);
+    EXPECT(0, paddockyear_tally(NONE, NONE, NONE, &pairs));
+    EXPECT(0, (uint32_t)pairs);
+    out[0] = 2, out[1] = 5, out[2] = 5;
+    EXPECT(0, paddockyear_tally(LENT(out), LENT(values), LENT(counts), &pairs));
+    EXPECT(2, (uint32_t)pairs);
+    EXPECT(2, values[0]);
+    EXPECT(1, (uint32_t)counts[0]);
+    EXPECT(5, values[1]);
+    EXPECT(2, (uint32_t)counts[1]);
+    EXPECT(92, values[2]);
+    EXPECT(82, (uint32_t)counts[2]);
+    report("receipt check, announced votes and tally");
+}
+
+int main(void) {
+    say_rules();
+    try_lengths();
+    fill_inputs();
+    hash_nothing();
+    permute_zeros();
+    lend_nothing_to_tablet_and_mix();
+    lend_no_inputs();
+    lend_no_throws_or_parts();
+    write_parts();
+    lend_one_slice_twice();
+    find_faults();
+    take_results();
+    return fflush(stdout) == 0 && !ferror(stdout) ? 0 : 1;
+}
