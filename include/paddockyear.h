@@ -14,10 +14,8 @@
  * ORDER OF REFUSALS. Whatever writes (tablet, mix servers, parts, draw, election) tests its limits first (3), then the length of every
  * slice (18), then the rest in rising number, each over its whole input. The judge goes command by command; the first faulty one decides.
  *
- * STACK. Needed by one call, on x86-64 (bench/run measures it; figures to be confirmed):
- *     hashes, row server, third row offsets, split, tally       at most 64 KiB
- *     tablet, each part, draw of the mask, election             at most 64 KiB each
- *     judging, first fault, receipt check, announced votes      at most 30 KB
+ * STACK. At most PADDOCKYEAR_STACK_WRITING bytes for each part and the election, PADDOCKYEAR_STACK_JUDGING for judging, the first fault and
+ * the announced votes, PADDOCKYEAR_STACK for every other call (measured, not proved).
  *
  * TERMS. M is the modulus, n the number of ballots; there are 2m lists, of which m are compared and m opened. In the arguments:
  *     modulus    M, 2 to 4294967295; every number is below it, and sums and differences are taken modulo M
@@ -124,6 +122,9 @@ enum {
 #define PADDOCKYEAR_PART_TWO_LENGTH(n, m) (35 + 10 * (size_t)(m) * (size_t)(n))
 #define PADDOCKYEAR_PART_THREE_LENGTH(n, m) (32 + 119 * (size_t)(n) + 332 * (size_t)(m) * (size_t)(n))
 #define PADDOCKYEAR_RECORD_LENGTH(n, m) (75 + 316 * (size_t)(n) + 734 * (size_t)(m) * (size_t)(n))
+
+/* The bytes of stack that a call needs at most. */
+enum { PADDOCKYEAR_STACK = 8192, PADDOCKYEAR_STACK_JUDGING = 32768, PADDOCKYEAR_STACK_WRITING = 458752 };
 
 /* ---- SHA-3 (FIPS 202) ------------------------------------------------------------------------------------------------------------- */
 
