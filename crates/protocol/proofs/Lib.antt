@@ -27,5 +27,7 @@ pub mod Announced
 pub mod Reencoding
 pub mod Completeness
 pub mod Demands
+pub mod Chains
 pub mod Named
+pub mod First
 pub mod Answered

@@ -1,167 +1,211 @@
--- The number of a fault names a rule that the command breaks.
+-- What the plain statements of `Broken` say and what the rules test are the same, command by command and test by test.
 use mathlib.Core.Path.{_≡_, refl}
-use mathlib.Core.Logic.{_≢_, _⊎_, inl, inr, ⊎-elim, ⊎-map}
-use mathlib.Core.Bool.{Bool, false}
+use mathlib.Core.Logic.{_↔_, _≢_, _⊎_, inl, inr, ⊎-elim, ⊎-map}
+use mathlib.Core.Bool.{Bool, true, false}
 use mathlib.Core.List.{List}
-use Prim.Native.Nat.{ℕ, zero, suc, _-_, _≤_, _<_}
+use Prim.Native.Nat.{ℕ, zero, suc, _+_, _-_, _≤_, _<_}
 use native.Mathlib.Numerals.{unary-clauses}
 use native.Mathlib.Omega.{arith}
-use lib.ListN.{length}
-use Rattle.laws.specs.declared.Found.the-variants.{Fault}
+use lib.Dec.{leb, ltb}
 use Rattle.laws.specs.Tests.{atMost, _and_, equal-iff, unequal-iff, differ-fails, below-fails, atMost-fails, and-fails, or-fails, implies-fails, every-fails, same-fails}
-use Rattle.laws.specs.Faults.{Names, kept-names, rule-names, Finds, located-finds, finding}
+use Rattle.laws.specs.Faults.{rule}
 use Rattle.laws.specs.Modular.{plus, minus}
 use Rattle.laws.specs.Permuting.{permutes-fails}
 use Rattle.protocol.specs.declared.Parameters.{Parameters}
 use Rattle.protocol.specs.declared.Due.{Due}
 use Rattle.protocol.specs.declared.Due.the-variants.{First, Ballot, Entry, FirstDice, Link, SecondDice, BallotHalf, ListHalf, Vote, FullOpening, End}
 use Rattle.protocol.specs.Terms.{item, modulusInLimits, ballotsInLimits, listsInLimits, inLimits, opened}
-use Rattle.protocol.specs.Layout.{width, recordLength}
-use Rattle.protocol.specs.Record.{parametersOf, voteOf}
-use Rattle.protocol.specs.Rules.{fairDie, fairDice, rightShape, numbersBelow, gives, agrees, firstRules, ballotRules, entryRules, firstDiceRules, linkRules, secondDiceRules, ballotHalfRules, listHalfRules, voteRules, fullRules, rules as rulesOf, placeOf, fault}
-use Rattle.protocol.specs.Judging.{ifCompared, ifOpened, trailingFault, found, ballotFaults, entryFaults, linkFaults, listHalfFaults, halfFaults, voteFaults, fullFaults, partOneFaults, partTwoFaults, partThreeFaults, firstFault}
-use Rattle.protocol.specs.Broken.{Unfair, Broken, stops, not-due, modulus, ballots, lists, entry-list, entry-position, link-list, link-ballot, half-ballot, half-list, half-position, vote-index, full-list, full-position, id, first-die, second-die, mask-ones, mask-bits, mask-drawn, position, taken, shift, ballot-number, list-number, vote, full-number, side, side-drawn, ballot-opening, list-opening, full-opening, first-halves, second-halves, falls, values}
-use Rattle.protocol.proofs.Tested.{wide}
+use Rattle.protocol.specs.Record.{voteOf}
+use Rattle.protocol.specs.Rules.{fairDie, fairDice, rightShape, numbersBelow, gives, agrees, firstRules, ballotRules, entryRules, firstDiceRules, linkRules, secondDiceRules, ballotHalfRules, listHalfRules, voteRules, fullRules, rules as rulesOf, fault}
+use Rattle.protocol.specs.Broken.{Test, noneLeft, notDue, cutShort, numbered, testNumber, testRank, Unfair, Broken, none-left, cut-short, not-due, modulus, ballots, lists, entry-list, entry-position, link-list, link-ballot, half-ballot, half-list, half-position, vote-index, full-list, full-position, id, first-die, second-die, mask-ones, mask-bits, mask-drawn, position, taken, shift, ballot-number, list-number, vote, full-number, side, side-drawn, ballot-opening, list-opening, full-opening, first-halves, second-halves, falls, values}
+use Rattle.protocol.proofs.Chains.{Firsts, Chain, kept-chain, rule-chain, chain-firsts}
 
 -- ---- tests that fail, as statements
 
-outside : (a b x : ℕ) → (atMost a x and atMost x b) ≡ false → (x < a) ⊎ (b < x)
-outside a b x e = ⊎-map (atMost-fails a x .0) (atMost-fails x b .0) (and-fails (atMost a x) (atMost x b) .0 e)
+pub outside : (a b x : ℕ) → ((atMost a x and atMost x b) ≡ false) ↔ ((x < a) ⊎ (b < x))
+outside a b x = (
+  λ e. ⊎-map (atMost-fails a x .0) (atMost-fails x b .0) (and-fails (atMost a x) (atMost x b) .0 e),
+  λ h. and-fails (atMost a x) (atMost x b) .1 (⊎-map (atMost-fails a x .1) (atMost-fails x b .1) h),
+)
 
-unfair : (dice : List ℕ) → fairDice dice ≡ false → (i : ℕ) × (i < 30) × Unfair (item dice i)
+pub unfair : (dice : List ℕ) → (fairDice dice ≡ false) ↔ ((i : ℕ) × (i < 30) × Unfair (item dice i))
 unfolding fairDice fairDie
-unfair dice e = let t = every-fails _ _ .0 e in (t .0, t .1, outside 49 54 (item dice (t .0)) (t .2))
+unfair dice = (
+  λ e. let t = every-fails _ _ .0 e in (t .0, t .1, outside 49 54 (item dice (t .0)) .0 (t .2)),
+  λ t. every-fails _ _ .1 (t .0, t .1, outside 49 54 (item dice (t .0)) .1 (t .2)),
+)
 
-too-large : (M : ℕ) (openings : ℕ → List ℕ) (k : ℕ) → numbersBelow M openings k ≡ false → (c : ℕ) × (c < k) × (M ≤ opened (openings c))
+too-large : (M : ℕ) (openings : ℕ → List ℕ) (k : ℕ) → (numbersBelow M openings k ≡ false) ↔ ((c : ℕ) × (c < k) × (M ≤ opened (openings c)))
 unfolding numbersBelow
-too-large M openings k e = let t = every-fails _ _ .0 e in (t .0, t .1, below-fails _ _ .0 (t .2))
+too-large M openings k = (
+  λ e. let t = every-fails _ _ .0 e in (t .0, t .1, below-fails _ _ .0 (t .2)),
+  λ t. every-fails _ _ .1 (t .0, t .1, below-fails _ _ .1 (t .2)),
+)
 
-disagree : (M s b l t : ℕ) → agrees M s b l t ≡ false → ((s ≡ 0) × (b ≢ plus M l t)) ⊎ ((s ≢ 0) × (b ≢ minus M l t))
+disagree : (M s b l t : ℕ) → (agrees M s b l t ≡ false) ↔ (((s ≡ 0) × (b ≢ plus M l t)) ⊎ ((s ≢ 0) × (b ≢ minus M l t)))
 unfolding agrees
-disagree M zero b l t e = inl (refl, unequal-iff _ _ .0 e)
-disagree M (suc s) b l t e = inr (λ z. omega arith, unequal-iff _ _ .0 e)
+disagree M zero b l t = (λ e. inl (refl, unequal-iff _ _ .0 e), ⊎-elim (λ h. unequal-iff _ _ .1 (h .1)) (λ h. absurd (h .0 refl)))
+disagree M (suc s) b l t = (λ e. inr (λ z. omega arith, unequal-iff _ _ .0 e), ⊎-elim (λ h. absurd (let z = h .0 in omega arith)) (λ h. unequal-iff _ _ .1 (h .1)))
 
 -- ---- the rules of each command
 
+-- a rule with its number; what its failed test says
+abbrev numbers : {P : Test → Type 0} {s : ℕ} (k : ℕ) → leb s (3 + k) ≡ true → ltb 0 k ≡ true → (b : Bool) (rest : ℕ) → (b ≡ false → P (numbered k))
+    → Chain testNumber testRank P (3 + k) rest → Chain testNumber testRank P s (rule k b rest)
+numbers k up pos b rest say c = rule-chain testNumber testRank (numbered k) b rest up pos say c
+
 module _ (drawn : Bool) (p : Parameters) (r : List ℕ) where
-  first-names : Names (Broken drawn p r First) (firstRules r)
+  abbrev Rules : Due → ℕ → Type 1
+  Rules d v = Chain testNumber testRank (Broken drawn p r d) 2 v
+
+  abbrev end : {d : Due} {s : ℕ} → Chain testNumber testRank (Broken drawn p r d) s 0
+  end = kept-chain testNumber testRank
+
+  first-chain : Rules First (firstRules r)
   unfolding firstRules inLimits modulusInLimits ballotsInLimits listsInLimits
-  first-names =
-      rule-names 3 _ _
-      (λ e. ⊎-elim (λ f. modulus (outside _ _ _ f)) (λ g. ⊎-elim (λ f. ballots (outside _ _ _ f)) (λ f. lists (outside _ _ _ f)) (and-fails _ _ .0 g)) (and-fails _ _ .0 e))
-      kept-names
+  first-chain =
+      numbers 3 refl refl _ _
+      (λ e. ⊎-elim (λ f. modulus (outside _ _ _ .0 f)) (λ g. ⊎-elim (λ f. ballots (outside _ _ _ .0 f)) (λ f. lists (outside _ _ _ .0 f)) (and-fails _ _ .0 g)) (and-fails _ _ .0 e))
+      end
 
-  ballot-names : (j : ℕ) → Names (Broken drawn p r (Ballot j)) (ballotRules p r j)
+  ballot-chain : (j : ℕ) → Rules (Ballot j) (ballotRules p r j)
   unfolding ballotRules
-  ballot-names zero = rule-names 5 _ _ (λ e. absurd (unequal-iff _ _ .0 (or-fails _ _ .0 e .0) refl)) kept-names
-  ballot-names (suc j) = rule-names 5 _ _ (λ e. id j (simp unary-clauses at (below-fails _ _ .0 (or-fails _ _ .0 e .1)))) kept-names
+  ballot-chain zero = numbers 5 refl refl _ _ (λ e. absurd (unequal-iff _ _ .0 (or-fails _ _ .0 e .0) refl)) end
+  ballot-chain (suc j) = numbers 5 refl refl _ _ (λ e. id j (simp unary-clauses at (below-fails _ _ .0 (or-fails _ _ .0 e .1)))) end
 
-  entry-names : (l i : ℕ) → Names (Broken drawn p r (Entry l i)) (entryRules p r l i)
+  entry-chain : (l i : ℕ) → Rules (Entry l i) (entryRules p r l i)
   unfolding entryRules
-  entry-names l i = rule-names 4 _ _ (λ e. entry-list l i (unequal-iff _ _ .0 e)) (rule-names 4 _ _ (λ e. entry-position l i (unequal-iff _ _ .0 e)) kept-names)
+  entry-chain l i = numbers 4 refl refl _ _ (λ e. entry-list l i (unequal-iff _ _ .0 e)) (numbers 4 refl refl _ _ (λ e. entry-position l i (unequal-iff _ _ .0 e)) end)
 
-  first-dice-names : Names (Broken drawn p r FirstDice) (firstDiceRules p r drawn)
+  first-dice-chain : Rules FirstDice (firstDiceRules p r drawn)
   unfolding firstDiceRules rightShape
-  first-dice-names =
-      rule-names 6 _ _ (λ e. let t = unfair _ e in first-die (t .0) (t .1) (t .2))
-      (rule-names 7 _ _ (λ e. ⊎-elim (λ f. mask-ones (unequal-iff _ _ .0 f)) (λ f. mask-bits (below-fails _ _ .0 f)) (and-fails _ _ .0 e))
-      (rule-names 8 _ _ (λ e. let t = implies-fails _ _ .0 e in mask-drawn (t .0) (unequal-iff _ _ .0 (t .1))) kept-names))
+  first-dice-chain =
+      numbers 6 refl refl _ _ (λ e. let t = unfair _ .0 e in first-die (t .0) (t .1) (t .2))
+      (numbers 7 refl refl _ _ (λ e. ⊎-elim (λ f. mask-ones (unequal-iff _ _ .0 f)) (λ f. mask-bits (below-fails _ _ .0 f)) (and-fails _ _ .0 e))
+      (numbers 8 refl refl _ _ (λ e. let t = implies-fails _ _ .0 e in mask-drawn (t .0) (unequal-iff _ _ .0 (t .1))) end))
 
-  link-names : (l j : ℕ) → Names (Broken drawn p r (Link l j)) (linkRules p r l j)
+  link-chain : (l j : ℕ) → Rules (Link l j) (linkRules p r l j)
   unfolding linkRules
-  link-names l j =
-      rule-names 4 _ _ (λ e. link-list l j (unequal-iff _ _ .0 e))
-      (rule-names 4 _ _ (λ e. link-ballot l j (unequal-iff _ _ .0 e))
-      (rule-names 9 _ _ (λ e. position l j (below-fails _ _ .0 e))
-      (rule-names 9 _ _ (λ e. let t = every-fails _ _ .0 e in taken l j (t .0) (t .1) (differ-fails _ _ .0 (t .2)))
-      (rule-names 10 _ _ (λ e. shift l j (below-fails _ _ .0 e)) kept-names))))
+  link-chain l j =
+      numbers 4 refl refl _ _ (λ e. link-list l j (unequal-iff _ _ .0 e))
+      (numbers 4 refl refl _ _ (λ e. link-ballot l j (unequal-iff _ _ .0 e))
+      (numbers 9 refl refl _ _ (λ e. position l j (below-fails _ _ .0 e))
+      (numbers 9 refl refl _ _ (λ e. let t = every-fails _ _ .0 e in taken l j (t .0) (t .1) (differ-fails _ _ .0 (t .2)))
+      (numbers 10 refl refl _ _ (λ e. shift l j (below-fails _ _ .0 e)) end))))
 
-  second-dice-names : Names (Broken drawn p r SecondDice) (secondDiceRules p r)
+  second-dice-chain : Rules SecondDice (secondDiceRules p r)
   unfolding secondDiceRules
-  second-dice-names = rule-names 6 _ _ (λ e. let t = unfair _ e in second-die (t .0) (t .1) (t .2)) kept-names
+  second-dice-chain = numbers 6 refl refl _ _ (λ e. let t = unfair _ .0 e in second-die (t .0) (t .1) (t .2)) end
 
-  ballot-half-names : (j : ℕ) → Names (Broken drawn p r (BallotHalf j)) (ballotHalfRules p r drawn j)
+  ballot-half-chain : (j : ℕ) → Rules (BallotHalf j) (ballotHalfRules p r drawn j)
   unfolding ballotHalfRules gives
-  ballot-half-names j =
-      rule-names 4 _ _ (λ e. half-ballot j (unequal-iff _ _ .0 e))
-      (rule-names 10 _ _ (λ e. let t = too-large _ _ _ e in ballot-number j (t .0) (t .1) (t .2))
-      (rule-names 11 _ _ (λ e. side j (atMost-fails _ _ .0 e))
-      (rule-names 12 _ _ (λ e. let t = implies-fails _ _ .0 e in side-drawn j (t .0) (unequal-iff _ _ .0 (t .1)))
-      (rule-names 13 _ _ (λ e. let t = every-fails _ _ .0 e in ballot-opening j (t .0) (t .1) (same-fails _ _ .0 (t .2))) kept-names))))
+  ballot-half-chain j =
+      numbers 4 refl refl _ _ (λ e. half-ballot j (unequal-iff _ _ .0 e))
+      (numbers 10 refl refl _ _ (λ e. let t = too-large _ _ _ .0 e in ballot-number j (t .0) (t .1) (t .2))
+      (numbers 11 refl refl _ _ (λ e. side j (atMost-fails _ _ .0 e))
+      (numbers 12 refl refl _ _ (λ e. let t = implies-fails _ _ .0 e in side-drawn j (t .0) (unequal-iff _ _ .0 (t .1)))
+      (numbers 13 refl refl _ _ (λ e. let t = every-fails _ _ .0 e in ballot-opening j (t .0) (t .1) (same-fails _ _ .0 (t .2))) end))))
 
-  list-half-names : (l j : ℕ) → Names (Broken drawn p r (ListHalf l j)) (listHalfRules p r l j)
+  list-half-chain : (l j : ℕ) → Rules (ListHalf l j) (listHalfRules p r l j)
   unfolding listHalfRules gives
-  list-half-names l j =
-      rule-names 4 _ _ (λ e. half-list l j (unequal-iff _ _ .0 e))
-      (rule-names 4 _ _ (λ e. half-position l j (unequal-iff _ _ .0 e))
-      (rule-names 10 _ _ (λ e. let t = too-large _ _ _ e in list-number l j (t .0) (t .1) (t .2))
-      (rule-names 13 _ _ (λ e. let t = every-fails _ _ .0 e in list-opening l j (t .0) (t .1) (same-fails _ _ .0 (t .2)))
-      (rule-names 14 _ _ (λ e. ⊎-elim (λ t. first-halves l j (t .0) (t .1)) (λ t. second-halves l j (t .0) (t .1)) (disagree _ _ _ _ _ e)) kept-names))))
+  list-half-chain l j =
+      numbers 4 refl refl _ _ (λ e. half-list l j (unequal-iff _ _ .0 e))
+      (numbers 4 refl refl _ _ (λ e. half-position l j (unequal-iff _ _ .0 e))
+      (numbers 10 refl refl _ _ (λ e. let t = too-large _ _ _ .0 e in list-number l j (t .0) (t .1) (t .2))
+      (numbers 13 refl refl _ _ (λ e. let t = every-fails _ _ .0 e in list-opening l j (t .0) (t .1) (same-fails _ _ .0 (t .2)))
+      (numbers 14 refl refl _ _ (λ e. ⊎-elim (λ t. first-halves l j (t .0) (t .1)) (λ t. second-halves l j (t .0) (t .1)) (disagree _ _ _ _ _ .0 e)) end))))
 
-  vote-names : (i : ℕ) → Names (Broken drawn p r (Vote i)) (voteRules p r i)
+  vote-chain : (i : ℕ) → Rules (Vote i) (voteRules p r i)
   unfolding voteRules
-  vote-names i =
-      rule-names 4 _ _ (λ e. vote-index i (unequal-iff _ _ .0 e))
-      (rule-names 10 _ _ (λ e. vote i (below-fails _ _ .0 e)) (rule-names 15 _ _ (λ e. let t = or-fails _ _ .0 e in fall i (unequal-iff _ _ .0 (t .0)) (atMost-fails _ _ .0 (t .1))) kept-names))
+  vote-chain i =
+      numbers 4 refl refl _ _ (λ e. vote-index i (unequal-iff _ _ .0 e))
+      (numbers 10 refl refl _ _ (λ e. vote i (below-fails _ _ .0 e)) (numbers 15 refl refl _ _ (λ e. let t = or-fails _ _ .0 e in fall i (unequal-iff _ _ .0 (t .0)) (atMost-fails _ _ .0 (t .1))) end))
     where
-      fall : (i : ℕ) → i ≢ 0 → voteOf p r i < voteOf p r (i - 1) → Broken drawn p r (Vote i) 15
+      fall : (i : ℕ) → i ≢ 0 → voteOf p r i < voteOf p r (i - 1) → Broken drawn p r (Vote i) (numbered 15)
       fall zero ne h = absurd (ne refl)
       fall (suc i) ne h = falls i (simp unary-clauses at h)
 
-  full-names : (l i : ℕ) → Names (Broken drawn p r (FullOpening l i)) (fullRules p r l i)
+  full-chain : (l i : ℕ) → Rules (FullOpening l i) (fullRules p r l i)
   unfolding fullRules gives
-  full-names l i =
-      rule-names 4 _ _ (λ e. full-list l i (unequal-iff _ _ .0 e))
-      (rule-names 4 _ _ (λ e. full-position l i (unequal-iff _ _ .0 e))
-      (rule-names 10 _ _ (λ e. let t = too-large _ _ _ e in full-number l i (t .0) (t .1) (t .2))
-      (rule-names 13 _ _ (λ e. let t = every-fails _ _ .0 e in full-opening l i (t .0) (t .1) (same-fails _ _ .0 (t .2)))
-      (rule-names 16 _ _ (λ e. let t = implies-fails _ _ .0 e in values l i (equal-iff _ _ .0 (t .0)) (permutes-fails _ _ _ .0 (t .1))) kept-names))))
+  full-chain l i =
+      numbers 4 refl refl _ _ (λ e. full-list l i (unequal-iff _ _ .0 e))
+      (numbers 4 refl refl _ _ (λ e. full-position l i (unequal-iff _ _ .0 e))
+      (numbers 10 refl refl _ _ (λ e. let t = too-large _ _ _ .0 e in full-number l i (t .0) (t .1) (t .2))
+      (numbers 13 refl refl _ _ (λ e. let t = every-fails _ _ .0 e in full-opening l i (t .0) (t .1) (same-fails _ _ .0 (t .2)))
+      (numbers 16 refl refl _ _ (λ e. let t = implies-fails _ _ .0 e in values l i (equal-iff _ _ .0 (t .0)) (permutes-fails _ _ _ .0 (t .1))) end))))
 
-  rules-names : (d : Due) → Names (Broken drawn p r d) (rulesOf p r drawn d)
-  rules-names First = first-names
-  rules-names (Ballot j) = ballot-names j
-  rules-names (Entry l i) = entry-names l i
-  rules-names FirstDice = first-dice-names
-  rules-names (Link l j) = link-names l j
-  rules-names SecondDice = second-dice-names
-  rules-names (BallotHalf j) = ballot-half-names j
-  rules-names (ListHalf l j) = list-half-names l j
-  rules-names (Vote i) = vote-names i
-  rules-names (FullOpening l i) = full-names l i
-  rules-names End = kept-names
+  rules-chain : (d : Due) → Rules d (rulesOf p r drawn d)
+  rules-chain First = first-chain
+  rules-chain (Ballot j) = ballot-chain j
+  rules-chain (Entry l i) = entry-chain l i
+  rules-chain FirstDice = first-dice-chain
+  rules-chain (Link l j) = link-chain l j
+  rules-chain SecondDice = second-dice-chain
+  rules-chain (BallotHalf j) = ballot-half-chain j
+  rules-chain (ListHalf l j) = list-half-chain l j
+  rules-chain (Vote i) = vote-chain i
+  rules-chain (FullOpening l i) = full-chain l i
+  rules-chain End = end
 
-  fault-names : (d : Due) → Names (Broken drawn p r d) (fault p r drawn d)
+  pub fault-chain : (d : Due) → Chain testNumber testRank (Broken drawn p r d) 0 (fault p r drawn d)
   unfolding fault
-  fault-names d =
-      rule-names 1 _ _ (λ e. stops d (let w : 0 < width p d = wide p d in omega (arith, below-fails (placeOf p r d) (length r) .0 e)))
-      (rule-names 2 _ _ (λ e. not-due d (unequal-iff _ _ .0 e)) (rule-names 1 _ _ (λ e. stops d (atMost-fails _ _ .0 e)) (rules-names d)))
+  fault-chain d =
+      rule-chain testNumber testRank noneLeft _ _ refl refl (λ e. none-left d (below-fails _ _ .0 e))
+      (rule-chain testNumber testRank notDue _ _ refl refl (λ e. not-due d (unequal-iff _ _ .0 e))
+      (rule-chain testNumber testRank cutShort _ _ refl refl (λ e. cut-short d (atMost-fails _ _ .0 e)) (rules-chain d)))
 
--- ---- a command, and a whole record
+  -- ---- and back
 
-pub named : (drawn : Bool) (p : Parameters) (r : List ℕ) (d : Due) (k : ℕ) → fault p r drawn d ≡ suc k → Broken drawn p r d (suc k)
-named drawn p r d k e = rw e at (fault-names drawn p r d .named (λ z. omega arith))
+  -- behind the three tests of every command
+  by-rule : {A B C D : Type 0} → D → A ⊎ (B ⊎ (C ⊎ D))
+  by-rule h = inr (inr (inr h))
 
--- the due command at that place breaks rule k, or bytes stand behind the last command
-Reason : Bool → Parameters → List ℕ → ℕ → ℕ → Type 0
-Reason drawn p r k place =
-    ((d : Due) × ((place ≡ placeOf p r d) × Broken drawn p r d k))
-    ⊎ ((k ≡ 17) × ((place ≡ recordLength p) × (recordLength p < length r)))
+  fails : {d : Due} {u : Test} → Broken drawn p r d u → fault-chain d .Fails u
+  unfolding fault-chain rules-chain first-chain ballot-chain entry-chain first-dice-chain link-chain second-dice-chain ballot-half-chain list-half-chain vote-chain full-chain firstRules inLimits modulusInLimits ballotsInLimits listsInLimits rightShape gives
+  fails (none-left d h) = inl (refl, below-fails _ _ .1 h)
+  fails (not-due d h) = inr (inl (refl, unequal-iff _ _ .1 h))
+  fails (cut-short d h) = inr (inr (inl (refl, atMost-fails _ _ .1 h)))
+  fails (modulus h) = by-rule (inl (refl, and-fails _ _ .1 (inl (outside _ _ _ .1 h))))
+  fails (ballots h) = by-rule (inl (refl, and-fails _ _ .1 (inr (and-fails _ _ .1 (inl (outside _ _ _ .1 h))))))
+  fails (lists h) = by-rule (inl (refl, and-fails _ _ .1 (inr (and-fails _ _ .1 (inr (outside _ _ _ .1 h))))))
+  fails (entry-list l i h) = by-rule (inl (refl, unequal-iff _ _ .1 h))
+  fails (entry-position l i h) = by-rule (inr (inl (refl, unequal-iff _ _ .1 h)))
+  fails (link-list l j h) = by-rule (inl (refl, unequal-iff _ _ .1 h))
+  fails (link-ballot l j h) = by-rule (inr (inl (refl, unequal-iff _ _ .1 h)))
+  fails (half-ballot j h) = by-rule (inl (refl, unequal-iff _ _ .1 h))
+  fails (half-list l j h) = by-rule (inl (refl, unequal-iff _ _ .1 h))
+  fails (half-position l j h) = by-rule (inr (inl (refl, unequal-iff _ _ .1 h)))
+  fails (vote-index i h) = by-rule (inl (refl, unequal-iff _ _ .1 h))
+  fails (full-list l i h) = by-rule (inl (refl, unequal-iff _ _ .1 h))
+  fails (full-position l i h) = by-rule (inr (inl (refl, unequal-iff _ _ .1 h)))
+  fails (id j h) = by-rule (inl (refl, or-fails _ _ .1 (unequal-iff _ _ .1 (λ z. omega arith), below-fails _ _ .1 (simp unary-clauses h))))
+  fails (first-die i l h) = by-rule (inl (refl, unfair _ .1 (i, l, h)))
+  fails (second-die i l h) = by-rule (inl (refl, unfair _ .1 (i, l, h)))
+  fails (mask-ones h) = by-rule (inr (inl (refl, and-fails _ _ .1 (inl (unequal-iff _ _ .1 h)))))
+  fails (mask-bits h) = by-rule (inr (inl (refl, and-fails _ _ .1 (inr (below-fails _ _ .1 h)))))
+  fails (mask-drawn e h) = by-rule (inr (inr (inl (refl, implies-fails _ _ .1 (e, unequal-iff _ _ .1 h)))))
+  fails (position l j h) = by-rule (inr (inr (inl (refl, below-fails _ _ .1 h))))
+  fails (taken l j i k h) = by-rule (inr (inr (inr (inl (refl, every-fails _ _ .1 (i, k, differ-fails _ _ .1 h))))))
+  fails (shift l j h) = by-rule (inr (inr (inr (inr (inl (refl, below-fails _ _ .1 h))))))
+  fails (ballot-number j c l h) = by-rule (inr (inl (refl, too-large _ _ _ .1 (c, l, h))))
+  fails (list-number l j c k h) = by-rule (inr (inr (inl (refl, too-large _ _ _ .1 (c, k, h)))))
+  fails (vote i h) = by-rule (inr (inl (refl, below-fails _ _ .1 h)))
+  fails (full-number l i q k h) = by-rule (inr (inr (inl (refl, too-large _ _ _ .1 (q, k, h)))))
+  fails (side j h) = by-rule (inr (inr (inl (refl, atMost-fails _ _ .1 h))))
+  fails (side-drawn j e h) = by-rule (inr (inr (inr (inl (refl, implies-fails _ _ .1 (e, unequal-iff _ _ .1 h))))))
+  fails (ballot-opening j c l h) = by-rule (inr (inr (inr (inr (inl (refl, every-fails _ _ .1 (c, l, same-fails _ _ .1 h)))))))
+  fails (list-opening l j c k h) = by-rule (inr (inr (inr (inl (refl, every-fails _ _ .1 (c, k, same-fails _ _ .1 h))))))
+  fails (full-opening l i q k h) = by-rule (inr (inr (inr (inl (refl, every-fails _ _ .1 (q, k, same-fails _ _ .1 h))))))
+  fails (first-halves l j e h) = by-rule (inr (inr (inr (inr (inl (refl, disagree _ _ _ _ _ .1 (inl (e, h))))))))
+  fails (second-halves l j e h) = by-rule (inr (inr (inr (inr (inl (refl, disagree _ _ _ _ _ .1 (inr (e, h))))))))
+  fails (falls i h) = by-rule (inr (inr (inl (refl, or-fails _ _ .1 (unequal-iff _ _ .1 (λ z. omega arith), atMost-fails _ _ .1 (simp unary-clauses h))))))
+  fails (values l i e h) = by-rule (inr (inr (inr (inr (inl (refl, implies-fails _ _ .1 (equal-iff _ _ .1 e, permutes-fails _ _ _ .1 h)))))))
 
-module _ (drawn : Bool) (p : Parameters) (r : List ℕ) where
-  found-finds : (d : Due) → Finds (Reason drawn p r) (found drawn p r d)
-  unfolding found Reason
-  found-finds d = located-finds _ _ (record { named = λ ne. inl (d, (refl, fault-names drawn p r d .named ne)) })
+  -- ---- the first test that a command breaks
 
-  trailing-finds : Finds (Reason drawn p r) (trailingFault p r)
-  unfolding trailingFault Reason
-  trailing-finds = located-finds _ _ (rule-names 17 _ _ (λ e. inr (refl, (refl, atMost-fails _ _ .0 e))) kept-names)
+  -- a command breaks a test exactly if that test of its rules fails
+  pub broken-iff : (d : Due) (u : Test) → Broken drawn p r d u ↔ fault-chain d .Fails u
+  broken-iff d u = (fails, fault-chain d .says u)
 
-record-finds : (drawn : Bool) (r : List ℕ) → Finds (Reason drawn (parametersOf r) r) (firstFault drawn r)
-unfolding firstFault partOneFaults partTwoFaults partThreeFaults ballotFaults entryFaults linkFaults listHalfFaults halfFaults voteFaults fullFaults ifCompared ifOpened
-record-finds drawn r = search (finding, found-finds, trailing-finds) depth 12
-
-pub refused-named : (drawn : Bool) (r : List ℕ) (k place : ℕ) → firstFault drawn r ≡ Fault k place
-    → ((d : Due) × ((place ≡ placeOf (parametersOf r) r d) × Broken drawn (parametersOf r) r d k))
-    ⊎ ((k ≡ 17) × ((place ≡ recordLength (parametersOf r)) × (recordLength (parametersOf r) < length r)))
-unfolding Reason
-refused-named drawn r k place e = record-finds drawn r .finds k place e
+  pub fault-firsts : (d : Due) → Firsts testNumber testRank (Broken drawn p r d) (fault p r drawn d)
+  fault-firsts d = chain-firsts testNumber testRank (fault-chain d) (λ u. fails)

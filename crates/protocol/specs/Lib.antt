@@ -14,3 +14,4 @@ pub mod Stands
 pub mod Demand3
 pub mod Election
 pub mod Broken
+pub mod Order

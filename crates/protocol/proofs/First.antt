@@ -1,0 +1,231 @@
+-- The first rule broken, in the order of the commands and of the tests in each: it is what refuses a record, and where.
+use mathlib.Core.Path.{_≡_, refl, sym, ap, ap₂, _∙_}
+use mathlib.Core.Logic.{_↔_, _≢_}
+use mathlib.Core.Bool.{Bool, true, false}
+use mathlib.Core.List.{List, [], _∷_, _++_}
+use Prim.Native.Nat.{ℕ, zero, suc, _≤_, _<_}
+use native.Mathlib.Omega.{arith}
+use lib.ListN.{length}
+use Rattle.laws.specs.declared.Found.{Found}
+use Rattle.laws.specs.declared.Found.the-variants.{Nothing, Fault}
+use Rattle.laws.specs.Tests.{choose, atMost, atMost-iff, atMost-fails, is-atMost, not-atMost}
+use Rattle.laws.specs.Faults.{rule, kept, located, _then_, first, nothing-fault, rule-kept, located-nothing, located-at, then-nothing, then-go, then-stop, rule-stop}
+use Rattle.protocol.specs.declared.Parameters.{Parameters}
+use Rattle.protocol.specs.declared.Due.{Due}
+use Rattle.protocol.specs.Layout.{recordLength}
+use Rattle.protocol.specs.Record.{parametersOf}
+use Rattle.protocol.specs.Rules.{placeOf, fault}
+use Rattle.protocol.specs.Judging.{ifCompared, ifOpened, trailingFault, found, ballotFaults, entryFaults, linkFaults, listHalfFaults, halfFaults, voteFaults, fullFaults, partOneFaults, partTwoFaults, partThreeFaults, firstFault}
+use Rattle.protocol.specs.Broken.{Test, noneLeft, notDue, cutShort, numbered, testNumber, testRank}
+use Rattle.protocol.specs.Order.{joined, ofCompared, ofUncompared, commands, commandsOf, Every, Unbroken, FirstTest, FirstBroken, command, trailing}
+use Rattle.protocol.proofs.Chains.{firsts-none, firsts-some}
+use Rattle.protocol.proofs.Named.{fault-firsts}
+
+-- ---- one command
+
+-- the rank of a test decides its number
+alike : (t u : Test) → testRank t ≡ testRank u → testNumber t ≡ testNumber u
+alike noneLeft noneLeft e = refl
+alike noneLeft notDue e = absurd (omega arith)
+alike noneLeft cutShort e = absurd (omega arith)
+alike noneLeft (numbered k) e = absurd (omega arith)
+alike notDue noneLeft e = absurd (omega arith)
+alike notDue notDue e = refl
+alike notDue cutShort e = absurd (omega arith)
+alike notDue (numbered k) e = absurd (omega arith)
+alike cutShort noneLeft e = absurd (omega arith)
+alike cutShort notDue e = absurd (omega arith)
+alike cutShort cutShort e = refl
+alike cutShort (numbered k) e = absurd (omega arith)
+alike (numbered j) noneLeft e = absurd (omega arith)
+alike (numbered j) notDue e = absurd (omega arith)
+alike (numbered j) cutShort e = absurd (omega arith)
+alike (numbered j) (numbered k) e = omega arith
+
+-- a fault that is located says its number, which is not 0, and its place
+located-fault : (place v : ℕ) {k a : ℕ} → located place v ≡ Fault k a → (v ≢ 0) × (k ≡ v) × (a ≡ place)
+unfolding located
+located-fault place zero e = absurd (nothing-fault refl e)
+located-fault place (suc v) {k} {a} e = let p : k ≡ suc v = cc in let q : a ≡ place = cc in (λ z. omega arith, p, q)
+
+module _ (drawn : Bool) (r : List ℕ) (d : Due) where
+  found-nothing : (found drawn (parametersOf r) r d ≡ Nothing) ↔ Unbroken drawn r d
+  unfolding found
+  found-nothing =
+      let c = firsts-none testNumber testRank (fault-firsts drawn (parametersOf r) r d) in
+      (λ e. c .0 (located-nothing _ _ .0 e), λ h. located-nothing _ _ .1 (c .1 h))
+
+  found-first : {k place : ℕ} → found drawn (parametersOf r) r d ≡ Fault k place
+      → (t : Test) × FirstTest drawn r d t × (k ≡ testNumber t) × (place ≡ placeOf (parametersOf r) r d)
+  unfolding found
+  found-first e =
+      let l = located-fault _ _ e in
+      let w = fault-firsts drawn (parametersOf r) r d .some (l .0) in
+      (w .0, record { breaks = w .2; none-before = w .3 }, l .1 ∙ sym (w .1), l .2)
+
+  first-found : (t : Test) → FirstTest drawn r d t → found drawn (parametersOf r) r d ≡ Fault (testNumber t) (placeOf (parametersOf r) r d)
+  unfolding found
+  first-found t h =
+      let c = fault-firsts drawn (parametersOf r) r d in
+      let e : fault (parametersOf r) r drawn d ≡ testNumber t = firsts-some testNumber testRank alike c t (h .breaks) (h .none-before) in
+      sym (located-at _ _ (λ z. c .none z t (h .breaks))) ∙ ap (λ k. Fault k (placeOf (parametersOf r) r d)) e
+
+-- ---- the commands in their order
+
+-- the first fault of a row of commands
+unfoldable pub firstOf : (Due → Found) → List Due → Found
+firstOf f [] = Nothing
+firstOf f (d ∷ ds) = f d then firstOf f ds
+
+then-assoc : (a b c : Found) → (a then b) then c ≡ a then (b then c)
+unfolding _then_
+then-assoc Nothing b c = refl
+then-assoc (Fault k place) b c = refl
+
+then-end : (a : Found) → a then Nothing ≡ a
+unfolding _then_
+then-end Nothing = refl
+then-end (Fault k place) = refl
+
+module _ (f : Due → Found) where
+  of-one : (d : Due) → firstOf f (d ∷ []) ≡ f d
+  unfolding firstOf
+  of-one d = then-end (f d)
+
+  of-more : (d : Due) (ds : List Due) → firstOf f (d ∷ ds) ≡ f d then firstOf f ds
+  unfolding firstOf
+  of-more d ds = refl
+
+  of-none : firstOf f [] ≡ Nothing
+  unfolding firstOf
+  of-none = refl
+
+  of-append : (cs ds : List Due) → firstOf f (cs ++ ds) ≡ firstOf f cs then firstOf f ds
+  unfolding firstOf _then_
+  of-append [] ds = refl
+  of-append (c ∷ cs) ds = ap (λ x. f c then x) (of-append cs ds) ∙ sym (then-assoc (f c) (firstOf f cs) (firstOf f ds))
+
+  of-joined : (g : ℕ → List Due) (n : ℕ) → firstOf f (joined g n) ≡ first (λ j. firstOf f (g j)) n
+  unfolding joined first
+  of-joined g zero = of-none
+  of-joined g (suc n) = of-append (joined g n) (g n) ∙ ap (λ x. x then firstOf f (g n)) (of-joined g n)
+
+  of-choose : (b : ℕ) (cs ds : List Due) → firstOf f (choose b cs ds) ≡ choose b (firstOf f cs) (firstOf f ds)
+  unfolding choose
+  of-choose zero cs ds = refl
+  of-choose (suc b) cs ds = refl
+
+  -- ---- nothing is found, or the first that is
+
+  of-nothing : (ds : List Due) → (firstOf f ds ≡ Nothing) ↔ Every (λ d. f d ≡ Nothing) ds
+  unfolding firstOf
+  of-nothing [] = (λ e. tt, λ h. refl)
+  of-nothing (d ∷ ds) = (
+    λ e. let t = then-nothing (f d) (firstOf f ds) .0 e in (t .0, of-nothing ds .0 (t .1)),
+    λ h. then-nothing (f d) (firstOf f ds) .1 (h .0, of-nothing ds .1 (h .1)),
+  )
+
+  -- the command that is found, with those before and behind it
+  Split : List Due → Found → Type 0
+  Split ds x = (before : List Due) × (d : Due) × (after : List Due) × (ds ≡ before ++ (d ∷ after)) × Every (λ c. f c ≡ Nothing) before × (f d ≡ x)
+
+  of-split : (ds : List Due) (k place : ℕ) → firstOf f ds ≡ Fault k place → Split ds (Fault k place)
+  unfolding firstOf Split
+  of-split [] k place e = absurd (nothing-fault refl e)
+  of-split (d ∷ ds) k place e = go (f d) refl (of-split ds k place)
+    where
+      go : (x : Found) → f d ≡ x → (firstOf f ds ≡ Fault k place → Split ds (Fault k place)) → Split (d ∷ ds) (Fault k place)
+      go Nothing g ih =
+          let t = ih (sym (then-go (f d) (firstOf f ds) g) ∙ e) in
+          (d ∷ t .0, t .1, t .2, ap {B = List Due} (λ c. d ∷ c) (t .3), (g, t .4), t .5)
+      go (Fault n a) g ih = ([], d, ds, refl, tt, sym (then-stop (f d) (firstOf f ds) (λ z. nothing-fault z g)) ∙ e)
+
+  of-found : (before : List Due) (d : Due) (after : List Due) → Every (λ c. f c ≡ Nothing) before → f d ≢ Nothing
+      → firstOf f (before ++ (d ∷ after)) ≡ f d
+  unfolding firstOf
+  of-found [] d after h ne = then-stop (f d) (firstOf f after) ne
+  of-found (c ∷ before) d after h ne = then-go (f c) (firstOf f (before ++ (d ∷ after))) (h .0) ∙ of-found before d after (h .1) ne
+
+-- the judge's walk is the walk over the commands in their order, and then rule 17
+pub in-order : (drawn : Bool) (r : List ℕ)
+    → firstFault drawn r ≡ firstOf (found drawn (parametersOf r) r) (commandsOf r) then trailingFault (parametersOf r) r
+unfolding firstFault partOneFaults partTwoFaults partThreeFaults ballotFaults entryFaults linkFaults listHalfFaults halfFaults voteFaults fullFaults ifCompared ifOpened commands ofCompared ofUncompared
+in-order drawn r = simp (of-append, of-joined, of-choose, of-one, of-more, of-none, then-assoc)
+
+-- ---- the record
+
+every-map : {P Q : Due → Type 0} (ds : List Due) → ((d : Due) → P d → Q d) → Every P ds → Every Q ds
+every-map [] f h = tt
+every-map (d ∷ ds) f h = (f d (h .0), every-map ds f (h .1))
+
+last-fault : (k : ℕ) (t : Bool) → rule k t kept ≢ 0 → (t ≡ false) × (rule k t kept ≡ k)
+unfolding rule
+last-fault k true ne = absurd (ne refl)
+last-fault k false ne = (refl, refl)
+
+-- rule 17
+module _ (p : Parameters) (r : List ℕ) where
+  trailing-nothing : (trailingFault p r ≡ Nothing) ↔ (length r ≤ recordLength p)
+  unfolding trailingFault
+  trailing-nothing = (
+    λ e. atMost-iff _ _ .0 (rule-kept 17 _ 0 refl .0 (located-nothing _ _ .0 e) .0),
+    λ h. located-nothing _ _ .1 (rule-kept 17 _ 0 refl .1 (is-atMost h, refl)),
+  )
+
+  trailing-fault : {k place : ℕ} → trailingFault p r ≡ Fault k place → (recordLength p < length r) × (k ≡ 17) × (place ≡ recordLength p)
+  unfolding trailingFault
+  trailing-fault e =
+      let l = located-fault _ _ e in
+      let t = last-fault 17 _ (l .0) in
+      (atMost-fails _ _ .0 (t .0), l .1 ∙ t .1, l .2)
+
+  fault-trailing : recordLength p < length r → trailingFault p r ≡ Fault 17 (recordLength p)
+  unfolding trailingFault
+  fault-trailing h =
+      let e : 17 ≡ rule 17 (atMost (length r) (recordLength p)) kept = rule-stop 17 _ _ (not-atMost h) in
+      ap (located (recordLength p)) (sym e) ∙ sym (located-at (recordLength p) 17 (omega arith))
+
+module _ (drawn : Bool) (r : List ℕ) where
+  walk : Found
+  walk = firstOf (found drawn (parametersOf r) r) (commandsOf r)
+
+  -- nothing is found exactly if no command breaks a test, and no byte follows
+  pub accepted-unbroken : (firstFault drawn r ≡ Nothing) ↔ (Every (Unbroken drawn r) (commandsOf r) × (length r ≤ recordLength (parametersOf r)))
+  accepted-unbroken = (
+    λ e. let t = then-nothing _ _ .0 (sym (in-order drawn r) ∙ e) in
+        (every-map (commandsOf r) (λ d. found-nothing drawn r d .0) (of-nothing _ _ .0 (t .0)), trailing-nothing _ _ .0 (t .1)),
+    λ h. in-order drawn r
+        ∙ then-nothing _ _ .1 (of-nothing _ _ .1 (every-map (commandsOf r) (λ d. found-nothing drawn r d .1) (h .0)), trailing-nothing _ _ .1 (h .1)),
+  )
+
+  -- a fault is found exactly if it is the first
+  pub refused-first : (k place : ℕ) → (firstFault drawn r ≡ Fault k place) ↔ FirstBroken drawn r k place
+  unfolding walk Split
+  refused-first k place = (λ e. from walk refl (sym (in-order drawn r) ∙ e), back)
+    where
+      from : (x : Found) → walk ≡ x → walk then trailingFault (parametersOf r) r ≡ Fault k place → FirstBroken drawn r k place
+      from Nothing w e =
+          let t = trailing-fault (parametersOf r) r (sym (then-go walk _ w) ∙ e) in
+          trailing (every-map (commandsOf r) (λ d. found-nothing drawn r d .0) (of-nothing _ _ .0 w)) (t .0) (t .1) (t .2)
+      from (Fault n a) w e =
+          let s = of-split _ _ k place (sym (then-stop walk _ (λ z. nothing-fault z w)) ∙ e) in
+          let t = found-first drawn r (s .1) (s .5) in
+          command (s .0) (s .1) (s .2) (t .0) (s .3) (every-map (s .0) (λ d. found-nothing drawn r d .0) (s .4)) (t .1) (t .2) (t .3)
+
+      back : FirstBroken drawn r k place → firstFault drawn r ≡ Fault k place
+      back (command before d after t order unbroken h e a) =
+          let f : found drawn (parametersOf r) r d ≡ Fault k place = first-found drawn r d t h ∙ sym (ap₂ Fault e a) in
+          let ne : found drawn (parametersOf r) r d ≢ Nothing = λ z. nothing-fault z f in
+          let w : walk ≡ found drawn (parametersOf r) r d =
+          ap (firstOf (found drawn (parametersOf r) r)) order ∙ of-found _ before d after (every-map before (λ c. found-nothing drawn r c .1) unbroken) ne
+          in
+          in-order drawn r ∙ then-stop walk _ (λ z. ne (sym w ∙ z)) ∙ w ∙ f
+      back (trailing unbroken l e a) =
+          let w : walk ≡ Nothing = of-nothing _ _ .1 (every-map (commandsOf r) (λ d. found-nothing drawn r d .1) unbroken) in
+          in-order drawn r ∙ then-go walk _ w ∙ fault-trailing (parametersOf r) r l ∙ sym (ap₂ Fault e a)
+
+  -- one number and one place
+  pub first-determined : {k place k′ place′ : ℕ} → FirstBroken drawn r k place → FirstBroken drawn r k′ place′ → (k ≡ k′) × (place ≡ place′)
+  first-determined {k} {place} {k′} {place′} x y =
+      let e : Fault k place ≡ Fault k′ place′ = sym (refused-first k place .1 x) ∙ refused-first k′ place′ .1 y in
+      (cc, cc)
