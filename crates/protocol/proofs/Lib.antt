@@ -30,4 +30,5 @@ pub mod Demands
 pub mod Chains
 pub mod Named
 pub mod First
+pub mod Unfitting
 pub mod Answered

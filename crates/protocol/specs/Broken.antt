@@ -39,6 +39,16 @@ testRank notDue = 1
 testRank cutShort = 2
 testRank (numbered k) = 3 + k
 
+-- 3 "M, n or m outside its limits"
+abbrev pub ModulusOutside : ℕ → Type 0
+ModulusOutside M = (M < 2) ⊎ (4294967295 < M)
+
+abbrev pub BallotsOutside : ℕ → Type 0
+BallotsOutside n = (n < 1) ⊎ (mostBallots < n)
+
+abbrev pub ListsOutside : ℕ → Type 0
+ListsOutside m = (m < 1) ⊎ (12 < m)
+
 -- outside '1' to '6'
 abbrev pub Unfair : ℕ → Type 0
 Unfair c = (c < 49) ⊎ (54 < c)
@@ -50,9 +60,9 @@ pub data Broken (drawn : Bool) (p : Parameters) (r : List ℕ) : Due → Test �
   -- 2 "a command byte that is not due"
   not-due : (d : Due) → item r (placeOf p r d) ≢ code p d → Broken drawn p r d notDue
   -- 3 "M, n or m outside its limits"
-  modulus : (parametersOf r .modulus < 2) ⊎ (4294967295 < parametersOf r .modulus) → Broken drawn p r First (numbered 3)
-  ballots : (parametersOf r .ballots < 1) ⊎ (mostBallots < parametersOf r .ballots) → Broken drawn p r First (numbered 3)
-  lists : (parametersOf r .compared < 1) ⊎ (12 < parametersOf r .compared) → Broken drawn p r First (numbered 3)
+  modulus : ModulusOutside (parametersOf r .modulus) → Broken drawn p r First (numbered 3)
+  ballots : BallotsOutside (parametersOf r .ballots) → Broken drawn p r First (numbered 3)
+  lists : ListsOutside (parametersOf r .compared) → Broken drawn p r First (numbered 3)
   -- 4 "a list, ballot, position or index operand other than the due one (in a link, list and ballot only)"
   entry-list : (l i : ℕ) → number r (atEntry p l i + 1) 1 ≢ l → Broken drawn p r (Entry l i) (numbered 4)
   entry-position : (l i : ℕ) → number r (atEntry p l i + 2) 2 ≢ i → Broken drawn p r (Entry l i) (numbered 4)

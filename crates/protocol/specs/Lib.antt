@@ -15,3 +15,4 @@ pub mod Demand3
 pub mod Election
 pub mod Broken
 pub mod Order
+pub mod Unfit
