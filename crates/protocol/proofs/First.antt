@@ -1,6 +1,6 @@
 -- The first rule broken, in the order of the commands and of the tests in each: it is what refuses a record, and where.
 use mathlib.Core.Path.{_≡_, refl, sym, ap, ap₂, _∙_}
-use mathlib.Core.Logic.{_↔_, _≢_}
+use mathlib.Core.Logic.{_↔_, _≢_, _⊎_, inl, inr, ⊎-elim}
 use mathlib.Core.Bool.{Bool, true, false}
 use mathlib.Core.List.{List, [], _∷_, _++_}
 use Prim.Native.Nat.{ℕ, zero, suc, _≤_, _<_}
@@ -8,16 +8,18 @@ use native.Mathlib.Omega.{arith}
 use lib.ListN.{length}
 use Rattle.laws.specs.declared.Found.{Found}
 use Rattle.laws.specs.declared.Found.the-variants.{Nothing, Fault}
-use Rattle.laws.specs.Tests.{choose, atMost, atMost-iff, atMost-fails, is-atMost, not-atMost}
-use Rattle.laws.specs.Faults.{rule, kept, located, _then_, first, nothing-fault, rule-kept, located-nothing, located-at, then-nothing, then-go, then-stop, rule-stop}
+use Rattle.laws.specs.Tests.{choose, equal, atMost, never, equal-iff, unequal-iff, atMost-iff, atMost-fails, is-atMost, not-atMost}
+use Rattle.laws.specs.Faults.{rule, kept, located, _then_, first, numberOf, nothing-fault, rule-kept, located-nothing, located-at, then-nothing, then-go, then-stop, rule-stop}
 use Rattle.protocol.specs.declared.Parameters.{Parameters}
 use Rattle.protocol.specs.declared.Due.{Due}
 use Rattle.protocol.specs.Layout.{recordLength}
 use Rattle.protocol.specs.Record.{parametersOf}
 use Rattle.protocol.specs.Rules.{placeOf, fault}
-use Rattle.protocol.specs.Judging.{ifCompared, ifOpened, trailingFault, found, ballotFaults, entryFaults, linkFaults, listHalfFaults, halfFaults, voteFaults, fullFaults, partOneFaults, partTwoFaults, partThreeFaults, firstFault}
+use Rattle.protocol.specs.Judging.{ifCompared, ifOpened, trailingFault, found, ballotFaults, entryFaults, linkFaults, listHalfFaults, halfFaults, voteFaults, fullFaults, partOneFaults, partTwoFaults, partThreeFaults, firstFault, judged}
 use Rattle.protocol.specs.Broken.{Test, noneLeft, notDue, cutShort, numbered, testNumber, testRank}
-use Rattle.protocol.specs.Order.{joined, ofCompared, ofUncompared, commands, commandsOf, Every, Unbroken, FirstTest, FirstBroken, command, trailing}
+use Rattle.protocol.specs.Answers.{done, refused, answerOf, accepted}
+use Rattle.protocol.specs.Results.{receiptRefusal}
+use Rattle.protocol.specs.Order.{joined, ofCompared, ofUncompared, commands, commandsOf, Every, Unbroken, FirstTest, FirstIn, FirstBroken, command, trailing, receiptCommands, ReceiptBroken, other-length, as-judge}
 use Rattle.protocol.proofs.Chains.{firsts-none, firsts-some}
 use Rattle.protocol.proofs.Named.{fault-firsts}
 
@@ -152,11 +154,86 @@ pub in-order : (drawn : Bool) (r : List ℕ)
 unfolding firstFault partOneFaults partTwoFaults partThreeFaults ballotFaults entryFaults linkFaults listHalfFaults halfFaults voteFaults fullFaults ifCompared ifOpened commands ofCompared ofUncompared
 in-order drawn r = simp (of-append, of-joined, of-choose, of-one, of-more, of-none, then-assoc)
 
--- ---- the record
+-- ---- numbers and answers
+
+number-of : {f : Found} {k place : ℕ} → f ≡ Fault k place → numberOf f ≡ k
+unfolding numberOf
+number-of e = ap numberOf e
+
+number-nothing : {f : Found} → f ≡ Nothing → numberOf f ≡ 0
+unfolding numberOf
+number-nothing e = ap numberOf e
+
+number-found : (f : Found) (k : ℕ) → k ≢ 0 → (numberOf f ≡ k) ↔ ((place : ℕ) × (f ≡ Fault k place))
+unfolding numberOf
+number-found Nothing k ne = (λ e. absurd (ne (sym e)), λ t. number-of (t .1))
+number-found (Fault n place) k ne = (λ e. (place, ap (λ x. Fault x place) e), λ t. number-of (t .1))
+
+answer-done : (v : ℕ) (values : List ℕ) → (answerOf v values ≡ done values) ↔ (v ≡ 0)
+unfolding answerOf
+answer-done zero values = (λ e. refl, λ e. refl)
+answer-done (suc v) values = (λ e. absurd (let z : _≡_ {A = ℕ} 0 1 = cc in omega arith), λ e. absurd (omega arith))
+
+answer-refused : (v k : ℕ) (values : List ℕ) → (answerOf v values ≡ refused k) ↔ ((v ≡ k) × (k ≢ 0))
+unfolding answerOf
+answer-refused zero k values = (λ e. absurd (let z : _≡_ {A = ℕ} 0 1 = cc in omega arith), λ t. absurd (t .1 (sym (t .0))))
+answer-refused (suc v) k values = (λ e. let h : suc v ≡ k = cc in (h, omega arith), λ t. ap refused (t .0))
+
+-- ---- a row of commands
 
 every-map : {P Q : Due → Type 0} (ds : List Due) → ((d : Due) → P d → Q d) → Every P ds → Every Q ds
 every-map [] f h = tt
 every-map (d ∷ ds) f h = (f d (h .0), every-map ds f (h .1))
+
+module _ (drawn : Bool) (r : List ℕ) (row : List Due) where
+  row-nothing : (firstOf (found drawn (parametersOf r) r) row ≡ Nothing) ↔ Every (Unbroken drawn r) row
+  row-nothing = (
+    λ e. every-map row (λ d. found-nothing drawn r d .0) (of-nothing _ row .0 e),
+    λ h. of-nothing _ row .1 (every-map row (λ d. found-nothing drawn r d .1) h),
+  )
+
+  row-first : (k place : ℕ) → (firstOf (found drawn (parametersOf r) r) row ≡ Fault k place) ↔ FirstIn drawn r row k place
+  unfolding Split
+  row-first k place = (
+    λ e. let s = of-split _ row k place e in
+        let t = found-first drawn r (s .1) (s .5) in
+        record {
+          before = s .0;
+          faulty = s .1;
+          after = s .2;
+          test = t .0;
+          order = s .3;
+          unbroken = every-map (s .0) (λ d. found-nothing drawn r d .0) (s .4);
+          first = t .1;
+          number-is = t .2;
+          place-is = t .3;
+        },
+    back,
+  )
+    where
+      back : FirstIn drawn r row k place → firstOf (found drawn (parametersOf r) r) row ≡ Fault k place
+      back h =
+          let e : found drawn (parametersOf r) r (h .faulty) ≡ Fault k place = first-found drawn r (h .faulty) (h .test) (h .first) ∙ sym (ap₂ Fault (h .number-is) (h .place-is)) in
+          ap (firstOf (found drawn (parametersOf r) r)) (h .order)
+          ∙ of-found _ (h .before) (h .faulty) (h .after) (every-map (h .before) (λ c. found-nothing drawn r c .1) (h .unbroken)) (λ z. nothing-fault z e)
+          ∙ e
+
+  -- no rule has number 0
+  row-number : {k place : ℕ} → FirstIn drawn r row k place → k ≢ 0
+  row-number h z =
+      let c = fault-firsts drawn (parametersOf r) r (h .faulty) in
+      let e = firsts-some testNumber testRank alike c (h .test) (h .first .breaks) (h .first .none-before) in
+      c .none (e ∙ sym (h .number-is) ∙ z) (h .test) (h .first .breaks)
+
+  row-zero : numberOf (firstOf (found drawn (parametersOf r) r) row) ≡ 0 → firstOf (found drawn (parametersOf r) r) row ≡ Nothing
+  row-zero = go (firstOf (found drawn (parametersOf r) r) row) refl
+    where
+      go : (x : Found) → firstOf (found drawn (parametersOf r) r) row ≡ x → numberOf (firstOf (found drawn (parametersOf r) r) row) ≡ 0
+          → firstOf (found drawn (parametersOf r) r) row ≡ Nothing
+      go Nothing e z = e
+      go (Fault k place) e z = absurd (row-number (row-first k place .0 e) (sym (number-of e) ∙ z))
+
+-- ---- the record
 
 last-fault : (k : ℕ) (t : Bool) → rule k t kept ≢ 0 → (t ≡ false) × (rule k t kept ≡ k)
 unfolding rule
@@ -190,42 +267,97 @@ module _ (drawn : Bool) (r : List ℕ) where
   walk = firstOf (found drawn (parametersOf r) r) (commandsOf r)
 
   -- nothing is found exactly if no command breaks a test, and no byte follows
-  pub accepted-unbroken : (firstFault drawn r ≡ Nothing) ↔ (Every (Unbroken drawn r) (commandsOf r) × (length r ≤ recordLength (parametersOf r)))
-  accepted-unbroken = (
-    λ e. let t = then-nothing _ _ .0 (sym (in-order drawn r) ∙ e) in
-        (every-map (commandsOf r) (λ d. found-nothing drawn r d .0) (of-nothing _ _ .0 (t .0)), trailing-nothing _ _ .0 (t .1)),
-    λ h. in-order drawn r
-        ∙ then-nothing _ _ .1 (of-nothing _ _ .1 (every-map (commandsOf r) (λ d. found-nothing drawn r d .1) (h .0)), trailing-nothing _ _ .1 (h .1)),
+  pub nothing-broken : (firstFault drawn r ≡ Nothing) ↔ (Every (Unbroken drawn r) (commandsOf r) × (length r ≤ recordLength (parametersOf r)))
+  nothing-broken = (
+    λ e. let t = then-nothing _ _ .0 (sym (in-order drawn r) ∙ e) in (row-nothing drawn r _ .0 (t .0), trailing-nothing _ _ .0 (t .1)),
+    λ h. in-order drawn r ∙ then-nothing _ _ .1 (row-nothing drawn r _ .1 (h .0), trailing-nothing _ _ .1 (h .1)),
   )
 
   -- a fault is found exactly if it is the first
-  pub refused-first : (k place : ℕ) → (firstFault drawn r ≡ Fault k place) ↔ FirstBroken drawn r k place
-  unfolding walk Split
-  refused-first k place = (λ e. from walk refl (sym (in-order drawn r) ∙ e), back)
+  pub first-broken : (k place : ℕ) → (firstFault drawn r ≡ Fault k place) ↔ FirstBroken drawn r k place
+  unfolding walk
+  first-broken k place = (λ e. from walk refl (sym (in-order drawn r) ∙ e), back)
     where
       from : (x : Found) → walk ≡ x → walk then trailingFault (parametersOf r) r ≡ Fault k place → FirstBroken drawn r k place
       from Nothing w e =
           let t = trailing-fault (parametersOf r) r (sym (then-go walk _ w) ∙ e) in
-          trailing (every-map (commandsOf r) (λ d. found-nothing drawn r d .0) (of-nothing _ _ .0 w)) (t .0) (t .1) (t .2)
-      from (Fault n a) w e =
-          let s = of-split _ _ k place (sym (then-stop walk _ (λ z. nothing-fault z w)) ∙ e) in
-          let t = found-first drawn r (s .1) (s .5) in
-          command (s .0) (s .1) (s .2) (t .0) (s .3) (every-map (s .0) (λ d. found-nothing drawn r d .0) (s .4)) (t .1) (t .2) (t .3)
+          trailing (row-nothing drawn r _ .0 w) (t .0) (t .1) (t .2)
+      from (Fault n a) w e = command (row-first drawn r _ k place .0 (sym (then-stop walk _ (λ z. nothing-fault z w)) ∙ e))
 
       back : FirstBroken drawn r k place → firstFault drawn r ≡ Fault k place
-      back (command before d after t order unbroken h e a) =
-          let f : found drawn (parametersOf r) r d ≡ Fault k place = first-found drawn r d t h ∙ sym (ap₂ Fault e a) in
-          let ne : found drawn (parametersOf r) r d ≢ Nothing = λ z. nothing-fault z f in
-          let w : walk ≡ found drawn (parametersOf r) r d =
-          ap (firstOf (found drawn (parametersOf r) r)) order ∙ of-found _ before d after (every-map before (λ c. found-nothing drawn r c .1) unbroken) ne
-          in
-          in-order drawn r ∙ then-stop walk _ (λ z. ne (sym w ∙ z)) ∙ w ∙ f
+      back (command h) =
+          let w : walk ≡ Fault k place = row-first drawn r _ k place .1 h in
+          in-order drawn r ∙ then-stop walk _ (λ z. nothing-fault z w) ∙ w
       back (trailing unbroken l e a) =
-          let w : walk ≡ Nothing = of-nothing _ _ .1 (every-map (commandsOf r) (λ d. found-nothing drawn r d .1) unbroken) in
-          in-order drawn r ∙ then-go walk _ w ∙ fault-trailing (parametersOf r) r l ∙ sym (ap₂ Fault e a)
+          in-order drawn r ∙ then-go walk _ (row-nothing drawn r _ .1 unbroken) ∙ fault-trailing (parametersOf r) r l ∙ sym (ap₂ Fault e a)
 
-  -- one number and one place
+  -- it is one number and one place
   pub first-determined : {k place k′ place′ : ℕ} → FirstBroken drawn r k place → FirstBroken drawn r k′ place′ → (k ≡ k′) × (place ≡ place′)
   first-determined {k} {place} {k′} {place′} x y =
-      let e : Fault k place ≡ Fault k′ place′ = sym (refused-first k place .1 x) ∙ refused-first k′ place′ .1 y in
+      let e : Fault k place ≡ Fault k′ place′ = sym (first-broken k place .1 x) ∙ first-broken k′ place′ .1 y in
       (cc, cc)
+
+  broken-number : {k place : ℕ} → FirstBroken drawn r k place → k ≢ 0
+  broken-number (command h) = row-number drawn r _ h
+  broken-number (trailing unbroken l e a) = λ z. omega arith
+
+  fault-number : numberOf (firstFault drawn r) ≡ 0 → firstFault drawn r ≡ Nothing
+  fault-number = go (firstFault drawn r) refl
+    where
+      go : (x : Found) → firstFault drawn r ≡ x → numberOf (firstFault drawn r) ≡ 0 → firstFault drawn r ≡ Nothing
+      go Nothing e z = e
+      go (Fault k place) e z = absurd (broken-number (first-broken k place .0 e) (sym (number-of e) ∙ z))
+
+  -- ---- the verdict
+
+  -- the record is accepted exactly if no command breaks a test, and no byte follows
+  pub judged-accepted : (judged drawn r ≡ accepted) ↔ (Every (Unbroken drawn r) (commandsOf r) × (length r ≤ recordLength (parametersOf r)))
+  unfolding judged
+  judged-accepted = (
+    λ e. nothing-broken .0 (fault-number (answer-done _ _ .0 e)),
+    λ h. answer-done _ _ .1 (number-nothing (nothing-broken .1 h)),
+  )
+
+  -- it is refused exactly by the number of the first rule broken
+  pub judged-refused : (k : ℕ) → (judged drawn r ≡ refused k) ↔ ((place : ℕ) × FirstBroken drawn r k place)
+  unfolding judged
+  judged-refused k = (
+    λ e. let t = answer-refused _ k [] .0 e in let f = number-found (firstFault drawn r) k (t .1) .0 (t .0) in (f .0, first-broken k (f .0) .0 (f .1)),
+    λ h. answer-refused _ k [] .1 (number-of (first-broken k (h .0) .1 (h .1)), broken-number (h .1)),
+  )
+
+-- ---- the receipt check
+
+rule-either : (k n : ℕ) (t : Bool) (rest : ℕ) → (rule k t rest ≡ n) ↔ (((t ≡ false) × (n ≡ k)) ⊎ ((t ≡ true) × (rest ≡ n)))
+unfolding rule
+rule-either k n true rest = (λ e. inr (refl, e), ⊎-elim (λ h. absurd (never refl (h .0))) (λ h. h .1))
+rule-either k n false rest = (λ e. inl (refl, sym e), ⊎-elim (λ h. sym (h .1)) (λ h. absurd (never (h .0) refl)))
+
+module _ (r printed : List ℕ) where
+  walked : Found
+  walked = firstOf (found false (parametersOf r) r) (receiptCommands (parametersOf r))
+
+  receipt-order : receiptRefusal r printed ≡ rule 18 (equal (length printed) 32) (numberOf walked)
+  unfolding receiptRefusal ballotFaults receiptCommands walked
+  receipt-order = simp (of-append, of-joined, of-one)
+
+  pub receipt-unbroken : (receiptRefusal r printed ≡ 0) ↔ ((length printed ≡ 32) × Every (Unbroken false r) (receiptCommands (parametersOf r)))
+  unfolding walked
+  receipt-unbroken = (
+    λ e. let t = rule-kept 18 _ _ refl .0 (sym receipt-order ∙ e) in (equal-iff _ _ .0 (t .0), row-nothing false r _ .0 (row-zero false r _ (t .1))),
+    λ h. receipt-order ∙ rule-kept 18 _ _ refl .1 (equal-iff _ _ .1 (h .0), number-nothing (row-nothing false r _ .1 (h .1))),
+  )
+
+  pub receipt-first : (k : ℕ) → k ≢ 0 → (receiptRefusal r printed ≡ k) ↔ ReceiptBroken r printed k
+  unfolding walked
+  receipt-first k ne = (λ e. from (rule-either 18 k _ _ .0 (sym receipt-order ∙ e)), λ h. receipt-order ∙ rule-either 18 k _ _ .1 (back h))
+    where
+      from : ((equal (length printed) 32 ≡ false) × (k ≡ 18)) ⊎ ((equal (length printed) 32 ≡ true) × (numberOf walked ≡ k)) → ReceiptBroken r printed k
+      from (inl h) = other-length (unequal-iff _ _ .0 (h .0)) (h .1)
+      from (inr h) =
+          let f = number-found walked k ne .0 (h .1) in
+          as-judge (equal-iff _ _ .0 (h .0)) (f .0) (row-first false r _ k (f .0) .0 (f .1))
+
+      back : ReceiptBroken r printed k → ((equal (length printed) 32 ≡ false) × (k ≡ 18)) ⊎ ((equal (length printed) 32 ≡ true) × (numberOf walked ≡ k))
+      back (other-length h e) = inl (unequal-iff _ _ .1 h, e)
+      back (as-judge l place h) = inr (equal-iff _ _ .1 l, number-of (row-first false r _ k place .1 h))

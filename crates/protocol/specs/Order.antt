@@ -1,7 +1,8 @@
 -- Document 01, "The record": the commands, "They come in this order."; and "What is refused": "The judge goes command by command; the first
 -- faulty one decides."
 use mathlib.Core.Path.{_≡_}
-use mathlib.Core.Bool.{Bool}
+use mathlib.Core.Logic.{_≢_}
+use mathlib.Core.Bool.{Bool, false}
 use mathlib.Core.List.{List, [], _∷_, _++_}
 use Prim.Native.Nat.{ℕ, zero, suc, _<_}
 use lib.ListN.{length}
@@ -75,10 +76,32 @@ module _ (drawn : Bool) (r : List ℕ) where
     pub breaks : Breaks d t
     pub none-before : (u : Test) → testRank u < testRank t → Breaks d u → ⊥
 
-  -- "the first faulty one decides": number k, found at a place
+  -- the first faulty one of a row of commands: it breaks rule k, and stands at that place
+  pub record FirstIn (row : List Due) (k place : ℕ) : Type 0 where
+    pub before : List Due
+    pub faulty : Due
+    pub after : List Due
+    pub test : Test
+    pub order : row ≡ before ++ (faulty ∷ after)
+    pub unbroken : Every Unbroken before
+    pub first : FirstTest faulty test
+    pub number-is : k ≡ testNumber test
+    pub place-is : place ≡ placeOf (parametersOf r) r faulty
+
+  -- "the first faulty one decides": what refuses the record, and where it is found
   pub data FirstBroken (k place : ℕ) : Type 0 where
-    command : (before : List Due) (d : Due) (after : List Due) (t : Test) → commandsOf r ≡ before ++ (d ∷ after)
-        → Every Unbroken before → FirstTest d t → k ≡ testNumber t → place ≡ placeOf (parametersOf r) r d → FirstBroken k place
+    command : FirstIn (commandsOf r) k place → FirstBroken k place
     -- 17 "bytes after 0B"
     trailing : Every Unbroken (commandsOf r) → recordLength (parametersOf r) < length r → k ≡ 17 → place ≡ recordLength (parametersOf r)
         → FirstBroken k place
+
+-- ---- the receipt check
+
+-- "reads the parameters and all ballots"
+unfoldable pub receiptCommands : Parameters → List Due
+receiptCommands p = (First ∷ []) ++ joined (λ j. Ballot j ∷ []) (p .ballots)
+
+-- "The receipt check tests its receipt's length (18), then 1 to 5 as the judge."
+pub data ReceiptBroken (r printed : List ℕ) (k : ℕ) : Type 0 where
+  other-length : length printed ≢ 32 → k ≡ 18 → ReceiptBroken r printed k
+  as-judge : length printed ≡ 32 → (place : ℕ) → FirstIn false r (receiptCommands (parametersOf r)) k place → ReceiptBroken r printed k
