@@ -15,8 +15,9 @@ use Rattle.protocol.specs.Tablet.{tabletRefusal}
 use Rattle.protocol.specs.Columns.{isPermutation, rowRefusal, pairRefusal}
 use Rattle.protocol.specs.Results.{drawRefusal}
 use Rattle.protocol.specs.Inputs.{Slices, dueLengths, idsRise, allPermutations, refusal, partOneRefusal, partTwoRefusal, partTwoDrawnRefusal, binarySides, partThreeRefusal, partThreeDrawnRefusal}
+use Rattle.protocol.specs.Election.{Choice, chosen, drawn, maskInShape, sidesDue, sidesBinary, electionRefusal}
 use Rattle.protocol.specs.Broken.{ModulusOutside, BallotsOutside, ListsOutside}
-use Rattle.protocol.specs.Unfit.{InputTest, three, eighteen, rest, inputNumber, inputRank, Wrong, Unfit, outside-limits, other-length, not-above, unfair, wrong-shape, not-below, above-one, no-permutation, FirstRefusal, Misshapen, AnyNotBelow, NoPermutation, tabletWrong, rowWrong, pairWrong, drawWrong, partWrong, partOneWrong, partTwoWrong, partTwoDrawnWrong, partThreeWrong, partThreeDrawnWrong}
+use Rattle.protocol.specs.Unfit.{InputTest, three, eighteen, rest, inputNumber, inputRank, Wrong, Unfit, outside-limits, other-length, not-above, unfair, wrong-shape, not-below, above-one, no-permutation, FirstRefusal, Misshapen, AnyNotBelow, AnyAboveOne, NoPermutation, tabletWrong, rowWrong, pairWrong, drawWrong, partWrong, partOneWrong, partTwoWrong, partTwoDrawnWrong, partThreeWrong, partThreeDrawnWrong, maskWrong, sidesOtherLength, sidesWrong, electionWrong}
 use Rattle.protocol.proofs.Chains.{Firsts, Chain, kept-chain, rule-chain, chain-firsts, firsts-none, firsts-some}
 use Rattle.protocol.proofs.Named.{outside, unfair as unfair-iff}
 
@@ -165,6 +166,10 @@ module _ (s : Slices) where
       (both (both (unequal-iff _ _) (both (unequal-iff _ _) (both (unequal-iff _ _) (both (unequal-iff _ _) (unequal-iff _ _))))) l)
       rise d m (both (all-below _ _) (all-below _ _)) b (any _ (λ l. any _ (λ c. permutation _ _)))
 
+  sides-binary : (sides : List ℕ) → Tells (binarySides s sides) (AnyAboveOne s sides)
+  unfolding binarySides
+  sides-binary sides = any _ (λ j. atMost-fails _ _)
+
   pub part-one-first : (outLong : ℕ) → FirstRefusal (partOneWrong s outLong) (partOneRefusal s outLong)
   unfolding partOneRefusal
   part-one-first outLong = part-first _ _ _ _ _ _ _ _ (unequal-iff _ _) untested untested untested
@@ -181,12 +186,36 @@ module _ (s : Slices) where
 
   pub part-three-first : (dice : List ℕ) (mask : ℕ) (sides : List ℕ) (outLong : ℕ)
       → FirstRefusal (partThreeWrong s dice mask sides outLong) (partThreeRefusal s dice mask sides outLong)
-  unfolding partThreeRefusal binarySides
+  unfolding partThreeRefusal
   part-three-first dice mask sides outLong =
-      part-first _ _ _ _ _ _ _ _ (both (unequal-iff _ _) (both (unequal-iff _ _) (unequal-iff _ _))) (unfair-iff dice) (shape _ mask) (any _ (λ j. atMost-fails _ _))
+      part-first _ _ _ _ _ _ _ _ (both (unequal-iff _ _) (both (unequal-iff _ _) (unequal-iff _ _))) (unfair-iff dice) (shape _ mask) (sides-binary sides)
 
   pub part-three-drawn-first : (dice : List ℕ) (mask oneLong twoLong outLong : ℕ)
       → FirstRefusal (partThreeDrawnWrong s dice mask oneLong twoLong outLong) (partThreeDrawnRefusal s dice mask oneLong twoLong outLong)
   unfolding partThreeDrawnRefusal
   part-three-drawn-first dice mask oneLong twoLong outLong =
       part-first _ _ _ _ _ _ _ _ (both (unequal-iff _ _) (both (unequal-iff _ _) (both (unequal-iff _ _) (unequal-iff _ _)))) (unfair-iff dice) (shape _ mask) untested
+
+  given-mask : (byMask : Choice ℕ) → Tells (maskInShape s byMask) (maskWrong s byMask)
+  unfolding maskInShape
+  given-mask (chosen mask) = shape _ mask
+  given-mask drawn = untested
+
+  given-long : (bySides : Choice (List ℕ)) → Tells (sidesDue s bySides) (sidesOtherLength s bySides)
+  unfolding sidesDue
+  given-long (chosen sides) = unequal-iff _ _
+  given-long drawn = untested
+
+  given-sides : (bySides : Choice (List ℕ)) → Tells (sidesBinary s bySides) (sidesWrong s bySides)
+  unfolding sidesBinary
+  given-sides (chosen sides) = sides-binary sides
+  given-sides drawn = untested
+
+  pub election-first : (byMask : Choice ℕ) (dice₁ : List ℕ) (bySides : Choice (List ℕ)) (dice₂ : List ℕ) (oneLong twoLong threeLong joinedLong : ℕ)
+      → FirstRefusal (electionWrong s byMask dice₁ bySides dice₂ oneLong twoLong threeLong joinedLong)
+      (electionRefusal s byMask dice₁ bySides dice₂ oneLong twoLong threeLong joinedLong)
+  unfolding electionRefusal
+  election-first byMask dice₁ bySides dice₂ oneLong twoLong threeLong joinedLong =
+      part-first _ _ _ _ _ _ _ _
+      (both (unequal-iff _ _) (both (unequal-iff _ _) (both (given-long bySides) (both (unequal-iff _ _) (both (unequal-iff _ _) (both (unequal-iff _ _) (unequal-iff _ _)))))))
+      (both (unfair-iff dice₁) (unfair-iff dice₂)) (given-mask byMask) (given-sides bySides)

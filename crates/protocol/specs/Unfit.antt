@@ -8,8 +8,9 @@ use lib.Count.{ones}
 use lib.ListN.{length}
 use Rattle.protocol.specs.declared.Parameters.{Parameters}
 use Rattle.protocol.specs.Terms.{item}
-use Rattle.protocol.specs.Layout.{lists, partOneLength, partTwoLength, partThreeLength}
+use Rattle.protocol.specs.Layout.{lists, recordLength, partOneLength, partTwoLength, partThreeLength}
 use Rattle.protocol.specs.Inputs.{Slices, inputsOf}
+use Rattle.protocol.specs.Election.{Choice, chosen, drawn}
 use Rattle.protocol.specs.Broken.{ModulusOutside, BallotsOutside, ListsOutside, Unfair}
 
 -- "Writers test 3, then 18, then the rest in rising number, each over the whole input.": the tests, each with its number, and their order
@@ -176,11 +177,14 @@ module _ (s : Slices) where
       let p = s .parameters in
       partWrong ((length dice ≢ 30) ⊎ (oneLong ≢ partOneLength p) ⊎ (outLong ≢ partTwoLength p)) (AnyUnfair dice) ⊥ ⊥
 
+  abbrev pub AnyAboveOne : List ℕ → Type 0
+  AnyAboveOne sides = (j : ℕ) × (j < s .parameters .ballots) × (1 < item sides j)
+
   abbrev pub partThreeWrong : List ℕ → ℕ → List ℕ → ℕ → Wrong
   partThreeWrong dice mask sides outLong =
       let p = s .parameters in
       partWrong ((length dice ≢ 30) ⊎ (length sides ≢ p .ballots) ⊎ (outLong ≢ partThreeLength p)) (AnyUnfair dice)
-      (Misshapen (p .compared) mask) ((j : ℕ) × (j < p .ballots) × (1 < item sides j))
+      (Misshapen (p .compared) mask) (AnyAboveOne sides)
 
   abbrev pub partThreeDrawnWrong : List ℕ → ℕ → ℕ → ℕ → ℕ → Wrong
   partThreeDrawnWrong dice mask oneLong twoLong outLong =
@@ -188,3 +192,30 @@ module _ (s : Slices) where
       partWrong
       ((length dice ≢ 30) ⊎ (oneLong ≢ partOneLength p) ⊎ (twoLong ≢ partTwoLength p) ⊎ (outLong ≢ partThreeLength p))
       (AnyUnfair dice) (Misshapen (p .compared) mask) ⊥
+
+  -- ---- the three calls as one election; nothing is wrong with a mask, or with sides, that are drawn
+
+  abbrev pub maskWrong : Choice ℕ → Type 0
+  maskWrong (chosen mask) = Misshapen (s .parameters .compared) mask
+  maskWrong drawn = ⊥
+
+  abbrev pub sidesOtherLength : Choice (List ℕ) → Type 0
+  sidesOtherLength (chosen sides) = length sides ≢ s .parameters .ballots
+  sidesOtherLength drawn = ⊥
+
+  abbrev pub sidesWrong : Choice (List ℕ) → Type 0
+  sidesWrong (chosen sides) = AnyAboveOne sides
+  sidesWrong drawn = ⊥
+
+  abbrev pub electionWrong : Choice ℕ → List ℕ → Choice (List ℕ) → List ℕ → ℕ → ℕ → ℕ → ℕ → Wrong
+  electionWrong byMask dice₁ bySides dice₂ oneLong twoLong threeLong joinedLong =
+      let p = s .parameters in
+      partWrong
+      ((length dice₁ ≢ 30)
+      ⊎ (length dice₂ ≢ 30)
+      ⊎ sidesOtherLength bySides
+      ⊎ (oneLong ≢ partOneLength p)
+      ⊎ (twoLong ≢ partTwoLength p)
+      ⊎ (threeLong ≢ partThreeLength p)
+      ⊎ (joinedLong ≢ recordLength p))
+      (AnyUnfair dice₁ ⊎ AnyUnfair dice₂) (maskWrong byMask) (sidesWrong bySides)
