@@ -1,10 +1,25 @@
-// Where each command of a record stands, worked out from the parameters as document 01 lays the record out.
+// The parameters, and where each command of a record stands, worked out from them as document 01 lays the record out.
 ghost use mathlib.Core.Path.{_≡_};
 ghost use Prim.Native.Nat.{_+_, _*_, _≤_, _<_};
+ghost use lib.ListN.{length};
+ghost use Rattle.laws.specs.Lent.{before};
 ghost use Rattle.protocol.specs.Terms.{mostBallots};
 ghost use Rattle.protocol.specs.Layout as places;
+ghost use Rattle.protocol.specs.Record.{parametersOf};
 ghost use Rattle.layout.specs.Bounds.{Few};
 use protocol::Parameters;
+
+// The parameters that the first command says.
+pub fn parameters(bytes: &[u8]) -> Parameters
+    requires { ⌜ places.firstWidth (parametersOf (now bytes)) ≤ length (now bytes) ⌝ }
+    ensures { λ r. ⌜ r ≡ parametersOf (before bytes) ⌝ }
+{
+    Parameters {
+        modulus: wire::read4(bytes, 1),
+        ballots: wire::read2(bytes, 5) as usize,
+        compared: wire::read1(bytes, 7) as usize,
+    }
+}
 
 // How many lists there are.
 pub fn lists(p: Parameters) -> usize

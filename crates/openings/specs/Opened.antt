@@ -20,10 +20,10 @@ abbrev pub openingAt : List ℕ → ℕ → ℕ → List ℕ
 openingAt r at i = piece r (at + 36 * i) 36
 
 -- k openings and the commitments that they are to give lie in the record
-pub record Openings (r : List ℕ) (at posted step k : ℕ) : Type 0 where
+pub record Openings (r : List ℕ) (at posted from step k : ℕ) : Type 0 where
   pub few : k ≤ 6
   pub opened : at + 36 * k ≤ length r
-  pub committed : (i : ℕ) → i < k → posted + step * i + 32 ≤ length r
+  pub committed : (i : ℕ) → i < k → posted + 32 * (step * i + from) + 32 ≤ length r
 
 -- a command 07 in its place, the text being there where the side is drawn
 pub record BallotHalfReady (p : Parameters) (r : List ℕ) (at j : ℕ) (drawn : Bool) (q : List ℕ) : Type 0 where

@@ -10,11 +10,12 @@ ghost use Rattle.laws.specs.Bytes.{number};
 ghost use Rattle.laws.specs.Chunks.{piece};
 ghost use Rattle.laws.specs.Tables.{tabulate};
 ghost use Rattle.laws.specs.Permuting.{permutes};
-ghost use Rattle.protocol.specs.declared.Place.{Place};
 ghost use Rattle.protocol.specs.Terms.{sumOfThree, sumOfSix, mostBallots};
 ghost use Rattle.protocol.specs.Rules.{numbersBelow, gives, agrees, ballotHalfRules, listHalfRules, fullRules};
+ghost use Rattle.commitment.specs.Slots.{inSlot};
 ghost use Rattle.openings.specs.Opened.{openingAt, Openings, BallotHalfReady, ListHalfReady, FullReady, ListReady, PermutesReady};
 use protocol::Parameters;
+use protocol::Place;
 
 // Whether the numbers of k openings, one behind the other, are below the modulus.
 fn numbers_below(bytes: &[u8], at: usize, k: usize, modulus: u32) -> bool
@@ -31,15 +32,29 @@ fn numbers_below(bytes: &[u8], at: usize, k: usize, modulus: u32) -> bool
     true
 }
 
-// Whether k openings, one behind the other, give the commitments that stand `step` bytes apart from `posted` on; for any places, since a
-// commitment does not depend on its place (`commitment` in `Terms`).
-fn openings_give(bytes: &[u8], at: usize, posted: usize, step: usize, k: usize) -> bool
-    requires { ⌜ Openings (now bytes) at posted step k ⌝ }
-    ensures { λ r. ⌜ ((place : ℕ → Place) → r ≡ every (λ i. gives (place i) (openingAt (before bytes) at i) (piece (before bytes) (posted + step * i) 32)) k) ⌝ }
+// Whether k openings, one behind the other, give their commitments. Opening i is for slot step * i + from of the ballot or entry that
+// `place` is in, whose commitments stand one behind the other from `posted` on.
+fn openings_give(
+    p: Parameters,
+    place: Place,
+    bytes: &[u8],
+    at: usize,
+    posted: usize,
+    from: usize,
+    step: usize,
+    k: usize,
+) -> bool
+    requires { ⌜ Openings (now bytes) at posted from step k ⌝ }
+    ensures { λ r.
+        let r₀ = before bytes in
+        let slot : ℕ → ℕ = λ i. step * i + from in
+        ⌜ r ≡ every (λ i. gives p (inSlot place (slot i)) (openingAt r₀ at i) (piece r₀ (posted + 32 * slot i) 32)) k ⌝ }
 {
     let mut i: usize = 0;
     while i < k {
-        if !commitment::gives(bytes, at + 36 * i, posted + step * i) {
+        let q = step * i + from;
+        let slot = commitment::in_slot(place, q);
+        if !commitment::gives(p, slot, bytes, at + 36 * i, posted + 32 * q) {
             return false;
         }
         i += 1;
@@ -98,8 +113,9 @@ pub fn ballot_half_rules(
             return 12;
         }
     }
-    let posted = layout::at_ballot(p, j) + 5 + 32 * (side as usize);
-    if !openings_give(bytes, at + 4, posted, 64, 3) {
+    let ballot = layout::at_ballot(p, j);
+    let place = Place::InBallot(wire::read4(bytes, ballot + 1), 0);
+    if !openings_give(p, place, bytes, at + 4, ballot + 5, side as usize, 2, 3) {
         return 13;
     }
     0
@@ -142,8 +158,9 @@ pub fn list_half_rules(
     }
     let half = layout::at_ballot_half(p, j);
     let side = wire::read1(bytes, half + 3);
-    let posted = layout::at_entry(p, l, position) + 4 + 32 * (side as usize);
-    if !openings_give(bytes, at + 4, posted, 64, 3) {
+    let posted = layout::at_entry(p, l, position) + 4;
+    let place = Place::InEntry(l, position, 0);
+    if !openings_give(p, place, bytes, at + 4, posted, side as usize, 2, 3) {
         return 13;
     }
     let ballot = sum_of_three(bytes, half + 4, p.modulus);
@@ -230,7 +247,7 @@ pub fn full_rules(p: Parameters, bytes: &[u8], at: usize, l: usize, i: usize) ->
         return 10;
     }
     let posted = layout::at_entry(p, l, i) + 4;
-    if !openings_give(bytes, at + 4, posted, 32, 6) {
+    if !openings_give(p, Place::InEntry(l, i, 0), bytes, at + 4, posted, 0, 1, 6) {
         return 13;
     }
     if i + 1 == p.ballots {

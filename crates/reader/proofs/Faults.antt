@@ -20,18 +20,18 @@ use Rattle.protocol.specs.Rules.{placeOf, rules, fault}
 use Rattle.protocol.proofs.Due.{the-type}
 
 -- a command's byte is one more than the number of its kind
-code-tag : (d : Due) → code d ≡ suc (tagOf the-type d)
-code-tag First = refl
-code-tag (Ballot j) = refl
-code-tag (Entry l i) = refl
-code-tag FirstDice = refl
-code-tag (Link l j) = refl
-code-tag SecondDice = refl
-code-tag (BallotHalf j) = refl
-code-tag (ListHalf l j) = refl
-code-tag (Vote i) = refl
-code-tag (FullOpening l i) = refl
-code-tag End = refl
+code-tag : (p : Parameters) (d : Due) → code p d ≡ suc (tagOf the-type d)
+code-tag p First = refl
+code-tag p (Ballot j) = refl
+code-tag p (Entry l i) = refl
+code-tag p FirstDice = refl
+code-tag p (Link l j) = refl
+code-tag p SecondDice = refl
+code-tag p (BallotHalf j) = refl
+code-tag p (ListHalf l j) = refl
+code-tag p (Vote i) = refl
+code-tag p (FullOpening l i) = refl
+code-tag p End = refl
 
 -- the kinds by number, and those whose byte is not b
 abbrev kinds : List ℕ
@@ -45,18 +45,18 @@ without b (k ∷ ks) = pick (eqb (suc k) b) (without b ks) (k ∷ without b ks)
 abbrev pub NoCommand : ℕ → Type 0
 NoCommand x = (x ≡ 1 → ⊥) × (x ≡ 2 → ⊥) × (x ≡ 3 → ⊥) × (x ≡ 4 → ⊥) × (x ≡ 5 → ⊥) × (x ≡ 6 → ⊥) × (x ≡ 7 → ⊥) × (x ≡ 8 → ⊥) × (x ≡ 9 → ⊥) × (x ≡ 10 → ⊥) × (x ≡ 11 → ⊥)
 
-no-command : {x : ℕ} (d : Due) → NoCommand x → x ≡ code d → ⊥
-no-command First h e = h .0 e
-no-command (Ballot j) h e = h .1 e
-no-command (Entry l i) h e = h .2 e
-no-command FirstDice h e = h .3 e
-no-command (Link l j) h e = h .4 e
-no-command SecondDice h e = h .5 e
-no-command (BallotHalf j) h e = h .6 e
-no-command (ListHalf l j) h e = h .7 e
-no-command (Vote i) h e = h .8 e
-no-command (FullOpening l i) h e = h .9 e
-no-command End h e = h .10 e
+no-command : {x : ℕ} (p : Parameters) (d : Due) → NoCommand x → x ≡ code p d → ⊥
+no-command p First h e = h .0 e
+no-command p (Ballot j) h e = h .1 e
+no-command p (Entry l i) h e = h .2 e
+no-command p FirstDice h e = h .3 e
+no-command p (Link l j) h e = h .4 e
+no-command p SecondDice h e = h .5 e
+no-command p (BallotHalf j) h e = h .6 e
+no-command p (ListHalf l j) h e = h .7 e
+no-command p (Vote i) h e = h .8 e
+no-command p (FullOpening l i) h e = h .9 e
+no-command p End h e = h .10 e
 
 module _ (p : Parameters) (r : List ℕ) (drawn : Bool) {at : ℕ} (due : Due) (place : at ≡ placeOf p r due) where
   pub gone : length r ≤ at → 1 ≡ fault p r drawn due
@@ -64,28 +64,28 @@ module _ (p : Parameters) (r : List ℕ) (drawn : Bool) {at : ℕ} (due : Due) (
   gone h = rule-stop _ _ _ (not-below (omega arith))
 
   module _ (left : at < length r) where
-    not-due : (item r at ≡ code due → ⊥) → 2 ≡ fault p r drawn due
+    not-due : (item r at ≡ code p due → ⊥) → 2 ≡ fault p r drawn due
     unfolding fault
     not-due n = rule-go _ _ _ (is-below (omega arith)) (rule-stop _ _ _ (not-equal (λ e. n (ap (item r) place ∙ e))))
 
     -- the due command is of another kind than the byte's
     pub other-due : {b : ℕ} → item r at ≡ b → OneOf (without b kinds) (tagOf the-type due) → T (not (hasKey (without b kinds) (b - 1))) → 2 ≡ fault p r drawn due
-    other-due {b} byte o h = not-due (λ e. miss (without b kinds) (b - 1) h (subst (OneOf (without b kinds)) (omega (arith, byte, e, code-tag due)) o))
+    other-due {b} byte o h = not-due (λ e. miss (without b kinds) (b - 1) h (subst (OneOf (without b kinds)) (omega (arith, byte, e, code-tag p due)) o))
 
     pub unknown : NoCommand (item r at) → 2 ≡ fault p r drawn due
-    unknown h = not-due (no-command due h)
+    unknown h = not-due (no-command p due h)
 
-    module _ {d : Due} (is : due ≡ d) (byte : item r at ≡ code d) where
-      pub cut : length r < at + width d → 1 ≡ fault p r drawn due
+    module _ {d : Due} (is : due ≡ d) (byte : item r at ≡ code p d) where
+      pub cut : length r < at + width p d → 1 ≡ fault p r drawn due
       unfolding fault
       cut h =
           rule-go _ _ _ (is-below (omega arith))
-          (rule-go _ _ _ (is-equal (ap (item r) (sym place) ∙ byte ∙ ap code (sym is)))
-          (rule-stop _ _ _ (not-atMost (omega (arith, place, ap width is)))))
+          (rule-go _ _ _ (is-equal (ap (item r) (sym place) ∙ byte ∙ ap (code p) (sym is)))
+          (rule-stop _ _ _ (not-atMost (omega (arith, place, ap (width p) is)))))
 
-      pub whole : {x : ℕ} → at + width d ≤ length r → x ≡ rules p r drawn d → x ≡ fault p r drawn due
+      pub whole : {x : ℕ} → at + width p d ≤ length r → x ≡ rules p r drawn d → x ≡ fault p r drawn due
       unfolding fault
       whole h e =
           rule-go _ _ _ (is-below (omega arith))
-          (rule-go _ _ _ (is-equal (ap (item r) (sym place) ∙ byte ∙ ap code (sym is)))
-          (rule-go _ _ _ (is-atMost (omega (arith, place, ap width is))) (e ∙ ap (rules p r drawn) (sym is))))
+          (rule-go _ _ _ (is-equal (ap (item r) (sym place) ∙ byte ∙ ap (code p) (sym is)))
+          (rule-go _ _ _ (is-atMost (omega (arith, place, ap (width p) is))) (e ∙ ap (rules p r drawn) (sym is))))

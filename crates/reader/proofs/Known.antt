@@ -10,7 +10,7 @@ use Rattle.protocol.specs.declared.Due.{Due}
 use Rattle.protocol.specs.Layout.{atFirstDice, atBallotHalf}
 use Rattle.protocol.specs.Record.{listHalfPlace, fullPlace}
 use Rattle.protocol.specs.Rules.{placeOf}
-use Rattle.rules.specs.Marks.{FirstDiceReady}
+use Rattle.rules.specs.Dice.{FirstDiceReady}
 use Rattle.openings.specs.Opened.{BallotHalfReady, ListHalfReady, FullReady}
 use Rattle.reader.specs.Ready.{Ready, FirstDiceKnown, BallotHalfKnown, ListHalfKnown, FullKnown}
 

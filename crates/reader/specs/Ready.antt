@@ -4,6 +4,7 @@ use mathlib.Core.Bool.{Bool, true}
 use mathlib.Core.List.{List}
 use Prim.Native.Nat.{ℕ, suc, _+_, _≤_, _<_}
 use lib.ListN.{length, take}
+use Rattle.laws.specs.Marks.{Marks}
 use Rattle.laws.specs.Masks.{setBefore}
 use Rattle.protocol.specs.declared.Parameters.{Parameters}
 use Rattle.protocol.specs.declared.Due.{Due}
@@ -14,7 +15,6 @@ use Rattle.protocol.specs.Record.{firstDiceOf, maskOf, positionOf, shiftOf, sec
 use Rattle.protocol.specs.Drawing.{challenge}
 use Rattle.protocol.specs.Rules.{numbersBelow}
 use Rattle.layout.specs.Bounds.{Few}
-use Rattle.rules.specs.Marks.{Marked}
 
 -- the text that the mask is drawn from, where the command is whole
 pub record FirstDiceKnown (p : Parameters) (r : List ℕ) (drawn : Bool) (text : List ℕ) : Type 0 where
@@ -23,7 +23,7 @@ pub record FirstDiceKnown (p : Parameters) (r : List ℕ) (drawn : Bool) (text :
 
 pub record LinkKnown (p : Parameters) (r : List ℕ) (l j : ℕ) (marks : List Bool) : Type 0 where
   pub few : p .ballots ≤ mostBallots
-  pub marked : Marked p r l j marks
+  pub marked : Marks mostBallots (positionOf p r l) j marks
 
 pub record BallotHalfKnown (p : Parameters) (r : List ℕ) (j : ℕ) (drawn : Bool) (text : List ℕ) : Type 0 where
   pub few : Few p

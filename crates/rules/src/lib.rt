@@ -3,36 +3,21 @@
 ghost use mathlib.Core.Path.{_≡_};
 ghost use Prim.Native.Nat.{_+_, _*_, _≤_, _<_};
 ghost use lib.ListN.{length};
-ghost use Rattle.laws.specs.Chunks.{piece};
 ghost use Rattle.laws.specs.Lent.{before};
+ghost use Rattle.laws.specs.Marks.{Marks};
 ghost use Rattle.protocol.specs.Terms.{mostBallots};
-ghost use Rattle.protocol.specs.Layout.{atBallot, atEntry, atSecondDice, atVote};
-ghost use Rattle.protocol.specs.Record.{linkPlace};
-ghost use Rattle.protocol.specs.Rules.{fairDice, rightShape, firstRules, ballotRules, entryRules, firstDiceRules, linkRules, secondDiceRules, voteRules};
-ghost use Rattle.rules.specs.Marks.{FirstDiceReady, Marked};
+ghost use Rattle.protocol.specs.Layout.{firstWidth, atBallot, atEntry, atSecondDice, atVote};
+ghost use Rattle.protocol.specs.Record.{parametersOf, linkPlace, positionOf};
+ghost use Rattle.protocol.specs.Rules.{firstRules, ballotRules, entryRules, firstDiceRules, linkRules, secondDiceRules, voteRules};
+ghost use Rattle.rules.specs.Dice.{FirstDiceReady};
 use protocol::Parameters;
 
 // 01: M, n and m in their limits, 3.
 pub fn first_rules(bytes: &[u8]) -> u32
-    requires { ⌜ 8 ≤ length (now bytes) ⌝ }
+    requires { ⌜ firstWidth (parametersOf (now bytes)) ≤ length (now bytes) ⌝ }
     ensures { λ k. ⌜ k ≡ firstRules (before bytes) ⌝ }
 {
-    let modulus = wire::read4(bytes, 1);
-    if modulus < 2 {
-        return 3;
-    }
-    let ballots = wire::read2(bytes, 5);
-    if ballots < 1 {
-        return 3;
-    }
-    if protocol::MOST_BALLOTS < ballots {
-        return 3;
-    }
-    let compared = wire::read1(bytes, 7);
-    if compared < 1 {
-        return 3;
-    }
-    if 12 < compared {
+    if !limits::in_limits(layout::parameters(bytes)) {
         return 3;
     }
     0
@@ -73,11 +58,11 @@ pub fn first_dice_rules(p: Parameters, bytes: &[u8], at: usize, drawn: bool, tex
     requires { ⌜ FirstDiceReady p (now bytes) at drawn (now text) ⌝ }
     ensures { λ k. ⌜ k ≡ firstDiceRules p (before bytes) drawn ⌝ }
 {
-    if !fair_dice(bytes, at + 1) {
+    if !limits::fair_dice(bytes, at + 1) {
         return 6;
     }
     let mask = wire::read4(bytes, at + 31);
-    if !right_shape(p.compared, mask) {
+    if !limits::right_shape(p.compared, mask) {
         return 7;
     }
     if drawn {
@@ -88,8 +73,8 @@ pub fn first_dice_rules(p: Parameters, bytes: &[u8], at: usize, drawn: bool, tex
     0
 }
 
-// 05: list and ballot, 4; a position that is there and not taken, 9; t, 10. The marks (`Marked` in specs/Marks.antt) tell which positions
-// earlier links took; the stage that reads the links sets them.
+// 05: list and ballot, 4; a position that is there and not taken, 9; t, 10. The marks tell which positions earlier links
+// took; the stage that reads the links sets them.
 pub fn link_rules(
     p: Parameters,
     bytes: &[u8],
@@ -98,7 +83,7 @@ pub fn link_rules(
     j: usize,
     marks: &[bool; 1024],
 ) -> u32
-    requires { ⌜ (at ≡ linkPlace p (now bytes) l j) × ((at + 10 ≤ length (now bytes)) × ((p .ballots ≤ mostBallots) × Marked p (now bytes) l j (now marks))) ⌝ }
+    requires { ⌜ (at ≡ linkPlace p (now bytes) l j) × ((at + 10 ≤ length (now bytes)) × ((p .ballots ≤ mostBallots) × Marks mostBallots (positionOf p (now bytes) l) j (now marks))) ⌝ }
     ensures { λ k. ⌜ k ≡ linkRules p (before bytes) l j ⌝ }
 {
     if wire::read1(bytes, at + 1) as usize != l {
@@ -125,7 +110,7 @@ pub fn second_dice_rules(p: Parameters, bytes: &[u8], at: usize) -> u32
     requires { ⌜ (at ≡ atSecondDice p) × (at + 31 ≤ length (now bytes)) ⌝ }
     ensures { λ k. ⌜ k ≡ secondDiceRules p (before bytes) ⌝ }
 {
-    let fair = fair_dice(bytes, at + 1);
+    let fair = limits::fair_dice(bytes, at + 1);
     if !fair {
         return 6;
     }

@@ -30,7 +30,7 @@ module _ (drawn : Bool) (p : Parameters) (r : List ℕ) where
   pub stands-rules : (d : Due) → fault p r drawn d ≡ 0 → rulesOf p r drawn d ≡ 0
   stands-rules d e = fault-iff drawn p r d .0 e .1 .1
 
-  pub stands-whole : (d : Due) → fault p r drawn d ≡ 0 → placeOf p r d + width d ≤ length r
+  pub stands-whole : (d : Due) → fault p r drawn d ≡ 0 → placeOf p r d + width p d ≤ length r
   stands-whole d e = fault-iff drawn p r d .0 e .1 .0
 
   -- ---- the mask

@@ -1,7 +1,7 @@
 -- Parameters that are the record's, and the verdict by the first fault.
 use mathlib.Core.Path.{_≡_, refl, sym, ap}
 use mathlib.Core.Bool.{Bool}
-use mathlib.Core.List.{List}
+use mathlib.Core.List.{List, []}
 use Prim.Native.Nat.{ℕ, zero, suc}
 use Rattle.laws.specs.declared.Found.{Found}
 use Rattle.laws.specs.declared.Found.the-variants.{Nothing, Fault}
@@ -9,8 +9,9 @@ use Rattle.laws.specs.Faults.{_then_, numberOf, nothing-fault}
 use Rattle.protocol.specs.declared.Parameters.{Parameters}
 use Rattle.protocol.specs.declared.Due.the-variants.{First}
 use Rattle.protocol.specs.declared.Verdict.the-variants.{Accepted, Refused}
+use Rattle.protocol.specs.Answers.{answerOf, verdictAnswer}
 use Rattle.protocol.specs.Rules.{fault}
-use Rattle.protocol.specs.Judging.{found, ballotFaults, partOneFaults, partTwoFaults, partThreeFaults, firstFault, verdictOf, judged}
+use Rattle.protocol.specs.Judging.{found, ballotFaults, partOneFaults, partTwoFaults, partThreeFaults, firstFault, judged}
 use Rattle.protocol.proofs.Faultless.{accepted-nothing}
 
 -- the first command's rule is the same for all parameters
@@ -30,10 +31,10 @@ module _ (drawn : Bool) (r : List ℕ) where
 
   -- ---- the verdict
 
-  pub accepted-is : firstFault drawn r ≡ Nothing → Accepted ≡ judged drawn r
+  pub accepted-is : firstFault drawn r ≡ Nothing → verdictAnswer Accepted ≡ judged drawn r
   accepted-is e = sym (accepted-nothing drawn r .1 e)
 
-  pub refused-is : (k : ℕ) {at : ℕ} → firstFault drawn r ≡ Fault k at → Refused k ≡ judged drawn r
-  unfolding judged verdictOf numberOf
-  refused-is zero e = absurd (nothing-fault (accepted-nothing drawn r .0 (ap (λ (f : Found). verdictOf (numberOf f)) e)) e)
-  refused-is (suc k) e = sym (ap (λ (f : Found). verdictOf (numberOf f)) e)
+  pub refused-is : (k : ℕ) {at : ℕ} → firstFault drawn r ≡ Fault k at → verdictAnswer (Refused k) ≡ judged drawn r
+  unfolding judged answerOf numberOf
+  refused-is zero e = absurd (nothing-fault (accepted-nothing drawn r .0 (ap (λ (f : Found). answerOf (numberOf f) []) e)) e)
+  refused-is (suc k) e = sym (ap (λ (f : Found). answerOf (numberOf f) []) e)

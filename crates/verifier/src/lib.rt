@@ -7,6 +7,7 @@ ghost use Rattle.laws.specs.Faults.{_then_};
 ghost use Rattle.laws.specs.Chunks.{piece};
 ghost use Rattle.laws.specs.Lent.{before};
 ghost use Rattle.sha3.specs.Sha3.{absorbBytes};
+ghost use Rattle.protocol.specs.Answers.{verdictAnswer};
 ghost use Rattle.protocol.specs.Record.{parametersOf};
 ghost use Rattle.protocol.specs.Judging.{found, ballotFaults, partOneFaults, partTwoFaults, partThreeFaults, firstFault, judged};
 ghost use Rattle.verifier.specs.Passed.{Started};
@@ -16,18 +17,6 @@ use protocol::Parameters;
 use protocol::Verdict;
 
 // ---- the first command
-
-// The parameters that the first command says.
-pub fn parameters(bytes: &[u8]) -> Parameters
-    requires { ⌜ 8 ≤ length (now bytes) ⌝ }
-    ensures { λ r. ⌜ r ≡ parametersOf (before bytes) ⌝ }
-{
-    Parameters {
-        modulus: wire::read4(bytes, 1),
-        ballots: wire::read2(bytes, 5) as usize,
-        compared: wire::read1(bytes, 7) as usize,
-    }
-}
 
 // The fault of the first command. No parameters are known yet, and it needs none.
 fn first_command_fault(bytes: &[u8], drawn: bool, text: &[u8; 86], marks: &[bool; 1024]) -> Found
@@ -87,7 +76,7 @@ fn first_fault_with(bytes: &[u8], drawn: bool, text: &[u8; 86], marks: &[bool; 1
     let Found::Nothing = f else {
         return f;
     };
-    let p = parameters(bytes);
+    let p = layout::parameters(bytes);
     rest_faults(bytes, p, drawn, text, marks)
 }
 
@@ -98,7 +87,7 @@ fn head_fault_with(bytes: &[u8], text: &[u8; 86], marks: &[bool; 1024]) -> Found
     let Found::Nothing = f else {
         return f;
     };
-    let p = parameters(bytes);
+    let p = layout::parameters(bytes);
     stages::ballot_faults(bytes, p, false, p.ballots, text, marks)
 }
 
@@ -121,7 +110,7 @@ pub fn first_fault(bytes: &[u8], drawn: bool) -> Found
 }
 
 fn judge(bytes: &[u8], drawn: bool) -> Verdict
-    ensures { λ r. ⌜ r ≡ judged drawn (before bytes) ⌝ }
+    ensures { λ r. ⌜ verdictAnswer r ≡ judged drawn (before bytes) ⌝ }
 {
     match first_fault(bytes, drawn) {
         Found::Nothing => Verdict::Accepted,
@@ -131,14 +120,14 @@ fn judge(bytes: &[u8], drawn: bool) -> Verdict
 
 // Entry: plain judging takes mask and sides as posted.
 pub fn judge_plainly(bytes: &[u8]) -> Verdict
-    ensures { λ r. ⌜ r ≡ judged false (before bytes) ⌝ }
+    ensures { λ r. ⌜ verdictAnswer r ≡ judged false (before bytes) ⌝ }
 {
     judge(bytes, false)
 }
 
 // Entry: drawn judging demands that mask and sides be the drawn ones.
 pub fn judge_as_drawn(bytes: &[u8]) -> Verdict
-    ensures { λ r. ⌜ r ≡ judged true (before bytes) ⌝ }
+    ensures { λ r. ⌜ verdictAnswer r ≡ judged true (before bytes) ⌝ }
 {
     judge(bytes, true)
 }

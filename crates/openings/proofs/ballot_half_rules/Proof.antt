@@ -3,9 +3,9 @@ use mathlib.Core.Path.{_≡_, sym, ap, _∙_}
 use mathlib.Core.Bool.{Bool}
 use mathlib.Core.List.{List}
 use mathlib.Core.Logic.{⊎-elim}
-use Prim.Native.Nat.{ℕ, _+_, _*_}
+use Prim.Native.Nat.{ℕ, _+_, _*_, _≤_}
 use native.Mathlib.Omega.{arith}
-use lib.ListN.{take}
+use lib.ListN.{length, take}
 use borrow.Author.Needs.{needs}
 use borrow.Author.Tests.{not-true, not-false}
 use Rattle.laws.specs.Tests.{equal, atMost, _implies_, every, is-equal, not-equal, is-atMost, not-atMost}
@@ -19,7 +19,7 @@ use Rattle.protocol.specs.Record.{idOf, ballotCommitmentOf, secondDiceOf, sideO
 use Rattle.protocol.specs.Drawing.{challenge, drawnSide}
 use Rattle.protocol.specs.Rules.{numbersBelow, gives, ballotHalfRules}
 use Rattle.openings.specs.Opened.{openingAt}
-use Rattle.openings.proofs.Posted.{goes-on, breaks, implies-on, implies-off, posted-at}
+use Rattle.openings.proofs.Posted.{goes-on, breaks, implies-on, implies-off}
 use Rattle.openings.proofs.Places.{ballot-before}
 use Rattle.openings.proofs.ballot_half_rules.Statement.{statement}
 use Rattle.openings.proofs.ballot_half_rules.Tie as tie
@@ -28,7 +28,7 @@ use Rattle.openings.proofs.ballot_half_rules.Tie as tie
 
 module _ (p : Parameters) (r : List ℕ) (at : ℕ) (drawn : Bool) (j : ℕ) where
   abbrev posted : Bool
-  posted = every (λ k. gives (InBallot (idOf p r j) (2 * k + sideOf p r j)) (openingAt r (at + 4) k) (piece r (atBallot p j + 5 + 32 * (2 * k + sideOf p r j)) 32)) 3
+  posted = every (λ k. gives p (InBallot (idOf p r j) (2 * k + sideOf p r j)) (openingAt r (at + 4) k) (piece r (atBallot p j + 5 + 32 * (2 * k + sideOf p r j)) 32)) 3
 
   abbrev from13 : ℕ
   from13 = rule 13 posted kept
@@ -62,14 +62,13 @@ side-read c = let s = c .before .before .before .before .before .before in c .re
 drawn-read : (c : tie.After-drawn-side) → (let s = c .before .before .before .before .before .before .before .before .before in c .drawn-side .result ≡ side-drawn (s .args .p) (s .args .bytes .now) (s .args .at) (s .args .drawn) (s .args .j))
 drawn-read c = let s = c .before .before .before .before .before .before .before .before .before in c .drawn-side .ensures .0 ∙ ap (λ (q : List ℕ). drawnSide q (s .args .j)) (s .pre .text (c .before .if4 .taken))
 
-given : (c : tie.After-openings-give) → (let s = c .before .before .before .before .before .before .before .before .before .before in c .openings-give .result ≡ posted (s .args .p) (s .args .bytes .now) (s .args .at) (s .args .drawn) (s .args .j))
+id-read : (c : tie.After-read4) → (let s = c .before .before .before .before .before .before .before .before .before .before in c .read4 .result ≡ idOf (s .args .p) (s .args .bytes .now) (s .args .j))
+unfolding idOf
+id-read c = let s = c .before .before .before .before .before .before .before .before .before .before in c .read4 .ensures .0 ∙ ap (λ (a : ℕ). number (s .args .bytes .now) (a + 1) 4) (c .before .at-ballot .ensures .0)
+
+given : (c : tie.After-openings-give) → (let s = c .before .before .before .before .before .before .before .before .before .before .before in c .openings-give .result ≡ posted (s .args .p) (s .args .bytes .now) (s .args .at) (s .args .drawn) (s .args .j))
 given c =
-    let s = c .before .before .before .before .before .before .before .before .before .before in
-    let p = s .args .p in
-    let r = s .args .bytes .now in
-    let j = s .args .j in
-    posted-at r (s .args .at + 4) (c .before .at-ballot .result + 5 + 32 * c .before .before .before .before .read1 .result) 64 3 (λ k. InBallot (idOf p r j) (2 * k + sideOf p r j)) (λ k. atBallot p j + 5 + 32 * (2 * k + sideOf p r j))
-    (c .openings-give .ensures) (λ k. omega (arith, c .before .at-ballot .ensures .0, side-read (c .before .before .before .before)))
+    rw (side-read (c .before .before .before .before .before), id-read (c .before), c .before .before .at-ballot .ensures .0) at (c .openings-give .ensures)
 
 -- ---- the rules that are left
 
@@ -108,20 +107,28 @@ returns-3 c = breaks 11 _ _ (past-numbers (c .before .before)) (not-atMost (omeg
 returns-4 : tie.Need-returns-4
 returns-4 c = breaks 12 _ _ (past-side (c .before .before .before)) (implies-on _ _ (c .before .before .if4 .taken) ∙ not-equal (λ e. omega (arith, drawn-read (c .before), side-read (c .before .before .before .before))))
 
+ballot-inside : (c : tie.After-at-ballot) → (let s = c .before .before .before .before .before .before .before .before .before in c .at-ballot .result + 197 ≤ length (s .args .bytes .now))
+ballot-inside c =
+    let s = c .before .before .before .before .before .before .before .before .before in
+    omega (arith, c .at-ballot .ensures .0, s .pre .here, s .pre .whole, ballot-before (s .args .p) (s .args .j) (s .args .j) (s .pre .ballot))
+
+read4-requires : tie.Need-read4-requires
+read4-requires c κs = omega (arith, ballot-inside c)
+
 openings-give-requires : tie.Need-openings-give-requires
 openings-give-requires c κs =
-    let s = c .before .before .before .before .before .before .before .before .before in
+    let s = c .before .before .before .before .before .before .before .before .before .before in
     record {
       few = omega arith;
       opened = omega (arith, s .pre .whole);
-      committed = λ k h. omega (arith, c .at-ballot .ensures .0, c .before .before .if3 .left, s .pre .here, s .pre .whole, ballot-before (s .args .p) (s .args .j) (s .args .j) (s .pre .ballot));
+      committed = λ k h. omega (arith, ballot-inside (c .before), c .before .before .before .if3 .left);
     }
 
 returns-5 : tie.Need-returns-5
-returns-5 c = breaks 13 _ _ (past-drawn (c .before .before .before)) (sym (given (c .before)) ∙ not-true _ (c .if6 .taken))
+returns-5 c = breaks 13 _ _ (past-drawn (c .before .before .before .before)) (sym (given (c .before)) ∙ not-true _ (c .if6 .taken))
 
 returns-6 : tie.Need-returns-6
-returns-6 c = sym (goes-on 13 _ _ (past-drawn (c .before .before .before)) (sym (given (c .before)) ∙ not-false _ (c .if6 .left)))
+returns-6 c = sym (goes-on 13 _ _ (past-drawn (c .before .before .before .before)) (sym (given (c .before)) ∙ not-false _ (c .if6 .left)))
 
 pub ballot-half-rules-spec : {M : Type 1} → statement M
 ballot-half-rules-spec =
@@ -141,7 +148,7 @@ ballot-half-rules-spec =
     returns-4
     (λ c κs. search needs)
     (λ c. search needs)
-    (λ c. search needs)
+    read4-requires
     (λ c. search needs)
     (λ c. search needs)
     (λ c. search needs)

@@ -4,7 +4,7 @@ use mathlib.Core.Bool.{Bool, true}
 use mathlib.Core.List.{List}
 use mathlib.Core.Logic.{⊎-elim}
 use Prim.Native.Nat.{ℕ, suc, _+_, _-_, _*_, _≤_, _<_}
-use native.Mathlib.Nat.{eq-or-lt-of-le}
+use native.Mathlib.Nat.{add-zero, one-mul, eq-or-lt-of-le}
 use native.Mathlib.Omega.{arith}
 use borrow.Author.Needs.{needs}
 use borrow.Author.Tests.{not-true, not-false}
@@ -20,7 +20,7 @@ use Rattle.protocol.specs.Layout.{atEntry}
 use Rattle.protocol.specs.Record.{entryCommitmentOf, voteOf, fullPlace, fullOpeningOf}
 use Rattle.protocol.specs.Rules.{numbersBelow, gives, fullRules}
 use Rattle.openings.specs.Opened.{openingAt}
-use Rattle.openings.proofs.Posted.{goes-on, breaks, implies-on, implies-off, posted-at}
+use Rattle.openings.proofs.Posted.{goes-on, breaks, implies-on, implies-off}
 use Rattle.openings.proofs.Places.{entry-before, votes-before, full-first, full-steps, vote-steps}
 use Rattle.openings.proofs.full_rules.Statement.{statement}
 use Rattle.openings.proofs.full_rules.Tie as tie
@@ -35,7 +35,7 @@ module _ (p : Parameters) (r : List ℕ) (at l i : ℕ) where
   from16 = rule 16 (equal (i + 1) (p .ballots) implies permuted) kept
 
   abbrev posted : Bool
-  posted = every (λ q. gives (InEntry l i q) (openingAt r (at + 4) q) (piece r (atEntry p l i + 4 + 32 * q) 32)) 6
+  posted = every (λ q. gives p (InEntry l i q) (openingAt r (at + 4) q) (piece r (atEntry p l i + 4 + 32 * q) 32)) 6
 
   abbrev from13 : ℕ
   from13 = rule 13 posted from16
@@ -71,9 +71,8 @@ past-numbers c = goes-on 10 _ _ (past-position (c .before .before)) (numbers-kep
 
 given : (c : tie.After-openings-give) → (let s = c .before .before .before .before .before .before .before .before .before in c .openings-give .result ≡ posted (s .args .p) (s .args .bytes .now) (s .args .at) (s .args .l) (s .args .i))
 given c =
-    let s = c .before .before .before .before .before .before .before .before .before in
-    let at-entry = c .before .at-entry in
-    posted-at (s .args .bytes .now) (s .args .at + 4) (at-entry .result + 4) 32 6 (InEntry (s .args .l) (s .args .i)) (λ q. atEntry (s .args .p) (s .args .l) (s .args .i) + 4 + 32 * q) (c .openings-give .ensures) (λ q. omega (arith, at-entry .ensures .0))
+    let e = rw (c .before .at-entry .ensures .0) at (c .openings-give .ensures) in
+    simp (one-mul, add-zero) at e
 
 past-openings : (c : tie.Else4) → (let s = c .before .before .before .before .before .before .before .before .before .before in all s ≡ from16 (s .args .p) (s .args .bytes .now) (s .args .at) (s .args .l) (s .args .i))
 past-openings c = goes-on 13 _ _ (past-numbers (c .before .before .before)) (sym (given (c .before)) ∙ not-false _ (c .if4 .left))

@@ -18,7 +18,7 @@ use Rattle.protocol.specs.Layout.{atEntry, atLink, atBallotHalf}
 use Rattle.protocol.specs.Record.{entryCommitmentOf, linkPlace, positionOf, shiftOf, sideOf, ballotOpeningOf, listHalfPlace, listOpeningOf}
 use Rattle.protocol.specs.Rules.{numbersBelow, gives, agrees, listHalfRules}
 use Rattle.openings.specs.Opened.{openingAt}
-use Rattle.openings.proofs.Posted.{goes-on, breaks, posted-at}
+use Rattle.openings.proofs.Posted.{goes-on, breaks}
 use Rattle.openings.proofs.Places.{entry-before, link-before, half-before}
 use Rattle.openings.proofs.list_half_rules.Statement.{statement}
 use Rattle.openings.proofs.list_half_rules.Tie as tie
@@ -33,7 +33,7 @@ module _ (p : Parameters) (r : List ℕ) (at l j : ℕ) where
   from14 = rule 14 agreed kept
 
   abbrev posted : Bool
-  posted = every (λ k. gives (InEntry l (positionOf p r l j) (2 * k + sideOf p r j)) (openingAt r (at + 4) k) (piece r (atEntry p l (positionOf p r l j) + 4 + 32 * (2 * k + sideOf p r j)) 32)) 3
+  posted = every (λ k. gives p (InEntry l (positionOf p r l j) (2 * k + sideOf p r j)) (openingAt r (at + 4) k) (piece r (atEntry p l (positionOf p r l j) + 4 + 32 * (2 * k + sideOf p r j)) 32)) 3
 
   abbrev from13 : ℕ
   from13 = rule 13 posted from14
@@ -93,14 +93,7 @@ entry-read : (c : tie.After-at-entry) → (let s = c .before .before .before .be
 entry-read c = c .at-entry .ensures .0 ∙ ap (λ (k : ℕ). atEntry (c .before .before .before .before .before .before .before .before .before .before .before .before .args .p) (c .before .before .before .before .before .before .before .before .before .before .before .before .args .l) k) (position-read (c .before .before .before .before .before .before .before))
 
 given : (c : tie.After-openings-give) → (let s = c .before .before .before .before .before .before .before .before .before .before .before .before .before in c .openings-give .result ≡ posted (s .args .p) (s .args .bytes .now) (s .args .at) (s .args .l) (s .args .j))
-given c =
-    let s = c .before .before .before .before .before .before .before .before .before .before .before .before .before in
-    let p = s .args .p in
-    let r = s .args .bytes .now in
-    let position = positionOf p r (s .args .l) (s .args .j) in
-    let side = sideOf p r (s .args .j) in
-    posted-at r (s .args .at + 4) (c .before .at-entry .result + 4 + 32 * c .before .before .read12 .result) 64 3 (λ k. InEntry (s .args .l) position (2 * k + side)) (λ k. atEntry p (s .args .l) position + 4 + 32 * (2 * k + side))
-    (c .openings-give .ensures) (λ k. omega (arith, entry-read (c .before), side-read (c .before .before)))
+given c = rw (side-read (c .before .before), position-read (c .before .before .before .before .before .before .before .before), entry-read (c .before)) at (c .openings-give .ensures)
 
 -- ---- the rules that are left
 
@@ -209,8 +202,6 @@ list-half-rules-spec =
     (λ c. search needs)
     read1-requires-2
     at-entry-requires
-    (λ c. search needs)
-    (λ c. search needs)
     (λ c. search needs)
     (λ c. search needs)
     (λ c. search needs)

@@ -1,15 +1,15 @@
 -- `rules::link_rules` meets its contract: the mark of the position tells whether an earlier link took it.
-use mathlib.Core.Path.{_≡_, refl, ap, _∙_}
+use mathlib.Core.Path.{_≡_, refl, sym, ap, _∙_}
 use mathlib.Core.Bool.{false, not}
 use Prim.Native.Nat.{ℕ}
 use native.Mathlib.Omega.{arith}
 use lib.ListN.{getD}
 use borrow.Author.Needs.{needs}
 use Rattle.laws.specs.Tests.{differ, below, every, is-equal, not-equal, is-below, not-below}
+use Rattle.laws.specs.Marks.{unused}
 use Rattle.laws.specs.Faults.{rule, kept, rule-go, rule-stop}
 use Rattle.protocol.specs.Record.{positionOf, shiftOf}
 use Rattle.protocol.specs.Rules.{linkRules}
-use Rattle.rules.proofs.Marking.{mark-tells}
 use Rattle.rules.proofs.link_rules.Statement.{statement}
 use Rattle.rules.proofs.link_rules.Tie as tie
 
@@ -47,7 +47,10 @@ mark : (c : tie.After-if42) →
     let l = s .args .l in
     let j = s .args .j in
     every (λ i. differ (positionOf p r l i) (positionOf p r l j)) j ≡ not (getD (s .args .marks .now) (c .before .before .before .read22 .result) false))
-mark c = mark-tells _ _ _ _ (c .before .before .before .before .before .before .before .before .before .pre .1 .1 .1) (omega arith) (position-read (c .before .before .before))
+unfolding unused
+mark c =
+    let s = c .before .before .before .before .before .before .before .before .before in
+    rw (← position-read (c .before .before .before)) (sym (s .pre .1 .1 .1 .clear (c .before .before .before .read22 .result) (omega arith)))
 
 returns-4 : tie.Need-returns-4
 returns-4 c = named (c .before .before .before .before .before) (rule-go 9 _ _ (is-below (omega (arith, position-read (c .before .before .before .before)))) (rule-stop 9 _ _ (mark (c .before) ∙ ap not (c .if4 .taken))))

@@ -2,10 +2,10 @@
 use mathlib.Core.Path.{_≡_, refl, ap, _∙_}
 use mathlib.Core.Bool.{Bool, true}
 use mathlib.Core.List.{List}
-use Prim.Native.Nat.{ℕ, _-_, _≤_, _<_}
+use Prim.Native.Nat.{ℕ, _+_, _-_, _≤_, _<_}
 use native.Mathlib.Omega.{arith}
 use borrow.Author.Needs.{needs}
-use lib.ListN.{length}
+use lib.ListN.{length, set}
 use Rattle.laws.specs.declared.Found.{Found}
 use Rattle.laws.specs.declared.Found.the-variants.{Nothing}
 use Rattle.laws.specs.Faults.{first, first-more}
@@ -19,8 +19,7 @@ use Rattle.stages.proofs.Known.{stands-whole, link-position}
 use lib.ListN.{length-set}
 use Rattle.protocol.specs.Terms.{mostBallots}
 use Rattle.protocol.specs.Rules.{fault}
-use Rattle.rules.specs.Marks.{Marked}
-use Rattle.rules.proofs.Marking.{none-marked, one-marked}
+use Rattle.laws.specs.Marks.{Marks, none-marked, one-marked}
 use Rattle.stages.proofs.link_faults.Statement.{statement}
 use Rattle.stages.proofs.link_faults.Tie as tie
 
@@ -28,15 +27,19 @@ use Rattle.stages.proofs.link_faults.Tie as tie
 abbrev row : Bool → Parameters → List ℕ → ℕ → ℕ → Found
 row drawn p r l j = found drawn p r (Link l j)
 
+-- the mark of the position that was read
+one-more : {perm : ℕ → ℕ} {j q : ℕ} {marks : List Bool} → Marks mostBallots perm j marks → q ≡ perm j → q < length marks → Marks mostBallots perm (j + 1) (set marks q true)
+one-more {perm} {j} {q} {marks} m e h = rw e (one-marked m (omega arith))
+
 abbrev Inv-loop : tie.InvT-loop
 Inv-loop bytes p drawn l rank text marks₀ n j₀ marks j =
-    (j ≤ p .ballots) × (first (row drawn p bytes l) j ≡ Nothing) × (length marks ≡ mostBallots) × Marked p bytes l j marks
+    (j ≤ p .ballots) × (first (row drawn p bytes l) j ≡ Nothing) × (length marks ≡ mostBallots) × Marks mostBallots (positionOf p bytes l) j marks
 
 abbrev μ-loop : tie.MeasureT-loop
 μ-loop bytes p drawn l rank text marks₀ n j₀ marks j = p .ballots - j
 
 loop-holds : tie.Need-loop-holds Inv-loop μ-loop
-loop-holds c = let s = c .before .args in (omega arith, row-start _, refl, none-marked (s .p) (s .bytes .now) (s .l))
+loop-holds c = (omega arith, row-start _, refl, none-marked _ _)
 
 at-link-requires : tie.Need-at-link-requires Inv-loop μ-loop
 at-link-requires c κs = let s = c .before .before .before in (s .pre .0 .few, (s .pre .2, omega arith))
@@ -101,7 +104,7 @@ loop-again c =
       omega arith,
       first-more _ _ (g .inv .1) (passed (c .before)),
       length-set (g .marks) (c .read2 .result) true ∙ g .inv .2,
-      one-marked (s .p) (s .bytes .now) (s .l) (g .j) (g .inv .2) (marked c) (position c) (g .inv .3),
+      one-more (g .inv .3) (position c) (omega (arith, g .inv .2, marked c)),
     )
 
 returns-2 : tie.Need-returns-2 Inv-loop μ-loop

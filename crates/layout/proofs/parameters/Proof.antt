@@ -1,11 +1,11 @@
--- `verifier::parameters` meets its contract: each operand at its place.
+-- `layout::parameters` meets its contract: each operand at its place.
 use mathlib.Core.Path.{_≡_}
 use Prim.Native.Nat.{ℕ}
 use borrow.Author.Needs.{needs}
 use Rattle.protocol.specs.declared.Parameters.{Parameters}
 use Rattle.protocol.specs.Record.{parametersOf}
-use Rattle.verifier.proofs.parameters.Statement.{statement}
-use Rattle.verifier.proofs.parameters.Tie as tie
+use Rattle.layout.proofs.parameters.Statement.{statement}
+use Rattle.layout.proofs.parameters.Tie as tie
 
 -- parameters are the same where their numbers are
 same-parameters : {M M′ n n′ m m′ : ℕ} → M ≡ M′ → n ≡ n′ → m ≡ m′
