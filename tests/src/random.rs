@@ -40,6 +40,11 @@ impl Random {
         (0..length).map(|_| self.word() as u32).collect()
     }
 
+    /// Numbers of all 64 bits.
+    pub fn long_words(&mut self, length: usize) -> Vec<u64> {
+        (0..length).map(|_| self.word()).collect()
+    }
+
     pub fn permutation(&mut self, length: usize) -> Vec<u16> {
         let mut places: Vec<u16> = (0..length as u16).collect();
         for place in (1..length).rev() {

@@ -210,7 +210,7 @@ pub fn announced_votes(record: &[u8]) -> Result<Vec<u32>, Refusal> {
 }
 
 /// Each vote that an accepted record announces, rising, and how often.
-pub fn tally(record: &[u8]) -> Result<Vec<(u32, u32)>, Refusal> {
+pub fn tally(record: &[u8]) -> Result<Vec<(u32, u64)>, Refusal> {
     let votes = announced_votes(record)?;
     let (mut values, mut counts) = (vec![0; votes.len()], vec![0; votes.len()]);
     let mut pairs = 0;

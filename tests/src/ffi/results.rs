@@ -19,7 +19,7 @@ mod faces {
             votes_len: usize,
             values: *mut u32,
             values_len: usize,
-            counts: *mut u32,
+            counts: *mut u64,
             counts_len: usize,
             pairs: *mut u64,
         ) -> u32;
@@ -57,7 +57,7 @@ pub fn announced_votes(record: &[u8], out: &mut [u32]) -> u32 {
 }
 
 /// 0, or the refusal's number; `pairs` gets how many pairs were written.
-pub fn tally(votes: &[u32], values: &mut [u32], counts: &mut [u32], pairs: &mut u64) -> u32 {
+pub fn tally(votes: &[u32], values: &mut [u32], counts: &mut [u64], pairs: &mut u64) -> u32 {
     // SAFETY: the face reads the votes and writes the two other slices and `pairs`.
     unsafe {
         faces::paddockyear_tally(

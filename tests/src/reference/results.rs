@@ -14,13 +14,13 @@ pub fn announced_votes(record: &[u8], out: &mut [u32]) -> Result<(), u8> {
 }
 
 /// Each distinct vote with how often it stands; the votes do not fall.
-pub fn counted(votes: &[u32]) -> Vec<(u32, u32)> {
+pub fn counted(votes: &[u32]) -> Vec<(u32, u64)> {
     let runs = votes.chunk_by(|a, b| a == b);
-    runs.map(|run| (run[0], run.len() as u32)).collect()
+    runs.map(|run| (run[0], run.len() as u64)).collect()
 }
 
 /// Writes the pairs and answers how many, or 18, then 15. What lies behind the last pair stays.
-pub fn tally(votes: &[u32], values: &mut [u32], counts: &mut [u32]) -> Result<usize, u8> {
+pub fn tally(votes: &[u32], values: &mut [u32], counts: &mut [u64]) -> Result<usize, u8> {
     if values.len() != votes.len() || counts.len() != votes.len() {
         return Err(refusal::LENGTH);
     }

@@ -236,15 +236,15 @@ pub enum SidesSource<'a> {
 
 /// What a part is given beside the inputs; None where it is given nothing of the kind.
 #[derive(Default)]
-struct Given<'a> {
-    dice: Option<&'a [u8]>,
-    mask: Option<u32>,
-    sides: Option<&'a [u8]>,
+pub(super) struct Given<'a> {
+    pub dice: Option<&'a [u8]>,
+    pub mask: Option<u32>,
+    pub sides: Option<&'a [u8]>,
 }
 
 /// 3, then 18, then the rest in rising number, each over the whole input. `lent` has the further
 /// slices' lengths, each with the due one.
-fn check(inputs: &Inputs, given: &Given, lent: &[(usize, usize)]) -> Result<(), u8> {
+pub(super) fn check(inputs: &Inputs, given: &Given, lent: &[(usize, usize)]) -> Result<(), u8> {
     if !inputs.parameters.within_limits() {
         return Err(refusal::LIMITS);
     }
@@ -266,7 +266,7 @@ fn check(inputs: &Inputs, given: &Given, lent: &[(usize, usize)]) -> Result<(), 
 }
 
 /// The lengths due, 0 where the parameters are outside their limits.
-fn due_lengths(inputs: &Inputs) -> [usize; 3] {
+pub(super) fn due_lengths(inputs: &Inputs) -> [usize; 3] {
     match inputs.parameters.within_limits() {
         true => inputs.parameters.part_lengths(),
         false => [0; 3],

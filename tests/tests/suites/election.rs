@@ -151,8 +151,7 @@ fn every_misuse() {
     }
 }
 
-/// The first call's refusals come before the second's, these before the third's, and then the
-/// join's.
+/// One order over the whole input: 3, then 18 for every slice, the joined one too, then rising.
 #[test]
 fn every_pair_of_misuses() {
     let random = &mut Random::new(236);
@@ -164,11 +163,12 @@ fn every_pair_of_misuses() {
 
 /// The order in rows: what is broken, and what is answered.
 #[test]
-fn order_of_the_calls() {
+fn order_over_all_calls() {
     type Break = fn(&mut ElectionCall);
     let limits: Break = |call| call.inputs.parameters.m = 13;
     let key: Break = |call| call.inputs.keys.truncate(1);
     let place: Break = |call| call.inputs.permutations[0] = u16::MAX;
+    let number: Break = |call| call.inputs.numbers[0] = u32::MAX;
     let first_dice: Break = |call| call.first_dice.truncate(29);
     let first_die: Break = |call| call.first_dice[29] = b'7';
     let mask: Break = |call| call.mask = 0;
@@ -180,13 +180,15 @@ fn order_of_the_calls() {
     for (breaks, number) in [
         (&[limits, key, first_dice, join][..], 3),
         (&[key, place, first_die], 18),
-        (&[place, first_dice, second_dice, join], 19),
+        (&[join, place, first_die, number], 18),
+        (&[second_dice, place, number], 18),
         (&[first_dice, first_die, mask], 18),
-        (&[first_die, mask, second_dice, join], 6),
-        (&[mask, second_dice, second_die, join], 7),
-        (&[second_dice, side], 18),
-        (&[second_die, side, join], 6),
-        (&[side, join], 11),
+        (&[first_die, mask, number, place], 6),
+        (&[second_die, mask, number, side], 6),
+        (&[mask, number, side, place], 7),
+        (&[number, side, place], 10),
+        (&[side, place], 11),
+        (&[place], 19),
         (&[join], 18),
         (&[], 0),
     ] {
@@ -233,7 +235,7 @@ fn refusals_of_each_way() {
         let met: BTreeSet<u8> = call.misuses().iter().map(|misuse| misuse.number).collect();
         assert!(met.iter().eq(due), "{draws:?}");
         let mut answers = BTreeSet::new();
-        for _ in 0..300 {
+        for _ in 0..800 {
             let parameters = parameters(random, 5, 3);
             let mut call = ElectionCall::honest(random, parameters, draws);
             misuse_at_random(random, &mut call);

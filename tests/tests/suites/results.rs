@@ -190,7 +190,7 @@ fn announced_by_damaged_boards() {
 #[test]
 fn tallies() {
     let run = |votes: &[u32], lengths: [usize; 2]| {
-        let [mut values, mut counts] = lengths.map(|length| vec![77; length]);
+        let (mut values, mut counts) = (vec![77; lengths[0]], vec![77; lengths[1]]);
         (tally(votes, &mut values, &mut counts), values, counts)
     };
     assert_eq!(run(&[2, 5, 5], [3, 3]), (Ok(2), vec![2, 5, 77], vec![1, 2, 77]));
@@ -214,13 +214,13 @@ fn random_tallies() {
         }
         let lengths: [usize; 2] =
             std::array::from_fn(|_| length + random.pick(&[0, 0, 0, 0, 0, 0, 1, 40]));
-        let noise = lengths.map(|length| random.words(length));
-        let [mut values, mut counts] = noise.clone();
+        let noise = (random.words(lengths[0]), random.long_words(lengths[1]));
+        let (mut values, mut counts) = noise.clone();
         let answer = tally(&votes, &mut values, &mut counts);
         let pairs = answer.unwrap_or(0);
-        assert_eq!(values[pairs..], noise[0][pairs..]);
-        assert_eq!(counts[pairs..], noise[1][pairs..]);
-        assert!(answer.is_err() || counts[..pairs].iter().sum::<u32>() == length as u32);
+        assert_eq!(values[pairs..], noise.0[pairs..]);
+        assert_eq!(counts[pairs..], noise.1[pairs..]);
+        assert!(answer.is_err() || counts[..pairs].iter().sum::<u64>() == length as u64);
         assert!(values[..pairs].windows(2).all(|pair| pair[0] < pair[1]));
         answers.insert(answer.err());
     }
@@ -234,12 +234,12 @@ fn refused_tallies() {
     for fall in 1..40 {
         let mut votes: Vec<u32> = (10..50).collect();
         votes[fall] = votes[fall - 1] - 1;
-        let noise = [40, 40].map(|length| random.words(length));
-        let [mut values, mut counts] = noise.clone();
+        let noise = (random.words(40), random.long_words(40));
+        let (mut values, mut counts) = noise.clone();
         assert_eq!(tally(&votes, &mut values, &mut counts), Err(15));
         assert_eq!(tally(&votes, &mut values[1..], &mut counts), Err(18));
         assert_eq!(tally(&votes, &mut values, &mut counts[..39]), Err(18));
-        assert_eq!([values, counts], noise);
+        assert_eq!((values, counts), noise);
     }
 }
 

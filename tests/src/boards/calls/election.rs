@@ -74,8 +74,7 @@ impl Given for ElectionCall {
 
 impl Misusable for ElectionCall {
     fn misuses(&self) -> Vec<Misuse<Self>> {
-        let inputs = inputs::misuses(self.inputs.parameters.ballots());
-        let mut all: Vec<Misuse<Self>> = inputs.into_iter().map(|one| one.in_call(1)).collect();
+        let mut all = inputs::misuses(self.inputs.parameters.ballots());
         all.extend(dice());
         all.extend(buffers());
         if self.mask_given != 0 {
@@ -90,42 +89,42 @@ impl Misusable for ElectionCall {
 
 /// Rules 18 and 6 on both throws.
 fn dice() -> Vec<Misuse<ElectionCall>> {
-    let length = |turn, name, change| Misuse::new(refusal::LENGTH, name, change).in_call(turn);
-    let die = |turn, name, change| Misuse::new(refusal::DICE, name, change).in_call(turn);
+    let length = |name, change| Misuse::new(refusal::LENGTH, name, change);
+    let die = |name, change| Misuse::new(refusal::DICE, name, change);
     vec![
-        length(2, "29 first dice", |call| drop_last(&mut call.first_dice)),
-        length(2, "31 first dice", |call| call.first_dice.push(b'1')),
-        die(2, "first throw's first die 0", |call| call.first_dice[0] = b'0'),
-        die(2, "first throw's last die 7", |call| *last(&mut call.first_dice) = b'7'),
-        length(3, "29 second dice", |call| drop_last(&mut call.second_dice)),
-        length(3, "31 second dice", |call| call.second_dice.push(b'1')),
-        die(3, "second throw's first die 0", |call| call.second_dice[0] = b'0'),
-        die(3, "second throw's last die 7", |call| *last(&mut call.second_dice) = b'7'),
+        length("29 first dice", |call| drop_last(&mut call.first_dice)),
+        length("31 first dice", |call| call.first_dice.push(b'1')),
+        die("first throw's first die 0", |call| call.first_dice[0] = b'0'),
+        die("first throw's last die 7", |call| *last(&mut call.first_dice) = b'7'),
+        length("29 second dice", |call| drop_last(&mut call.second_dice)),
+        length("31 second dice", |call| call.second_dice.push(b'1')),
+        die("second throw's first die 0", |call| call.second_dice[0] = b'0'),
+        die("second throw's last die 7", |call| *last(&mut call.second_dice) = b'7'),
     ]
 }
 
 /// Rule 18 on the buffers.
 fn buffers() -> Vec<Misuse<ElectionCall>> {
-    let length = |turn, name, change| Misuse::new(refusal::LENGTH, name, change).in_call(turn);
+    let length = |name, change| Misuse::new(refusal::LENGTH, name, change);
     vec![
-        length(1, "part one short", |call| drop_last(&mut call.buffers[0])),
-        length(1, "part one long", |call| call.buffers[0].push(0xA5)),
-        length(1, "no part one", |call| call.buffers[0].clear()),
-        length(2, "part two short", |call| drop_last(&mut call.buffers[1])),
-        length(2, "part two long", |call| call.buffers[1].push(0xA5)),
-        length(2, "no part two", |call| call.buffers[1].clear()),
-        length(3, "part three short", |call| drop_last(&mut call.buffers[2])),
-        length(3, "part three long", |call| call.buffers[2].push(0xA5)),
-        length(3, "no part three", |call| call.buffers[2].clear()),
-        length(4, "join short", |call| drop_last(&mut call.buffers[3])),
-        length(4, "join long", |call| call.buffers[3].push(0xA5)),
-        length(4, "no join", |call| call.buffers[3].clear()),
+        length("part one short", |call| drop_last(&mut call.buffers[0])),
+        length("part one long", |call| call.buffers[0].push(0xA5)),
+        length("no part one", |call| call.buffers[0].clear()),
+        length("part two short", |call| drop_last(&mut call.buffers[1])),
+        length("part two long", |call| call.buffers[1].push(0xA5)),
+        length("no part two", |call| call.buffers[1].clear()),
+        length("part three short", |call| drop_last(&mut call.buffers[2])),
+        length("part three long", |call| call.buffers[2].push(0xA5)),
+        length("no part three", |call| call.buffers[2].clear()),
+        length("join short", |call| drop_last(&mut call.buffers[3])),
+        length("join long", |call| call.buffers[3].push(0xA5)),
+        length("no join", |call| call.buffers[3].clear()),
     ]
 }
 
 /// Rule 7.
 fn mask() -> Vec<Misuse<ElectionCall>> {
-    let shape = |name, change| Misuse::new(refusal::MASK_SHAPE, name, change).in_call(2);
+    let shape = |name, change| Misuse::new(refusal::MASK_SHAPE, name, change);
     vec![
         shape("mask 0", |call| call.mask = 0),
         shape("one too many", |call| call.mask |= call.mask + 1),
@@ -137,8 +136,8 @@ fn mask() -> Vec<Misuse<ElectionCall>> {
 
 /// Rules 18 and 11 on the sides.
 fn sides() -> Vec<Misuse<ElectionCall>> {
-    let length = |name, change| Misuse::new(refusal::LENGTH, name, change).in_call(3);
-    let side = |name, change| Misuse::new(refusal::SIDE, name, change).in_call(3);
+    let length = |name, change| Misuse::new(refusal::LENGTH, name, change);
+    let side = |name, change| Misuse::new(refusal::SIDE, name, change);
     vec![
         length("a side less", |call| drop_last(&mut call.sides)),
         length("a side more", |call| call.sides.push(0)),

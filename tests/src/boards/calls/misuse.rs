@@ -14,8 +14,6 @@ pub struct Misuse<C> {
     pub number: u8,
     pub name: &'static str,
     change: fn(&mut C),
-    /// Which of several calls in one refuses it.
-    turn: u8,
 }
 
 impl<C> Clone for Misuse<C> {
@@ -28,24 +26,19 @@ impl<C> Copy for Misuse<C> {}
 
 impl<C> Misuse<C> {
     pub fn new(number: u8, name: &'static str, change: fn(&mut C)) -> Self {
-        Misuse { number, name, change, turn: 0 }
-    }
-
-    /// The same misuse, met by this one of several calls.
-    pub fn in_call(self, turn: u8) -> Self {
-        Misuse { turn, ..self }
+        Misuse { number, name, change }
     }
 
     pub fn apply(&self, call: &mut C) {
         (self.change)(call)
     }
 
-    /// Its place in the writers' order: call by call 3, then 18, then rising.
-    fn order(&self) -> (u8, u8) {
+    /// Its place in the writers' order: 3, then 18, then rising.
+    fn order(&self) -> u8 {
         match self.number {
-            refusal::LIMITS => (self.turn, 0),
-            refusal::LENGTH => (self.turn, 1),
-            number => (self.turn, number),
+            refusal::LIMITS => 0,
+            refusal::LENGTH => 1,
+            number => number,
         }
     }
 }

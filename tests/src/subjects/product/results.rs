@@ -26,7 +26,7 @@ pub fn announced_votes(record: &[u8], out: &mut [u32]) -> Result<(), u8> {
     )
 }
 
-pub fn tally(votes: &[u32], values: &mut [u32], counts: &mut [u32]) -> Result<usize, u8> {
+pub fn tally(votes: &[u32], values: &mut [u32], counts: &mut [u64]) -> Result<usize, u8> {
     let noise = 0xA5A5_5A5A_0F0F_F0F0;
     let (mut lent_values, mut lent_counts) = (Lent::new(values), Lent::new(counts));
     let mut pairs = noise;
