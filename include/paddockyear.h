@@ -124,7 +124,7 @@ enum {
 #define PADDOCKYEAR_RECORD_LENGTH(n, m) (75 + 316 * (size_t)(n) + 734 * (size_t)(m) * (size_t)(n))
 
 /* The bytes of stack that a call needs at most. */
-enum { PADDOCKYEAR_STACK = 8192, PADDOCKYEAR_STACK_JUDGING = 32768, PADDOCKYEAR_STACK_WRITING = 458752 };
+enum { PADDOCKYEAR_STACK = 8192, PADDOCKYEAR_STACK_JUDGING = 32768, PADDOCKYEAR_STACK_WRITING = 65536 };
 
 /* ---- SHA-3 (FIPS 202) ------------------------------------------------------------------------------------------------------------- */
 
@@ -376,9 +376,9 @@ uint32_t paddockyear_announced_votes(const uint8_t *bytes, size_t length, uint32
 
 /* The tally of votes that do not fall: for each distinct vote, rising, values[i] is the vote and counts[i] how often it is there. *pairs is
  * how many pairs were written; behind the last pair both slices are left as they were. values and counts have the votes' length.
- * Answers 0; 18, also for more than 4294967295 votes; 15 where a vote is below the one before. */
+ * Answers 0; 18; 15 where a vote is below the one before. */
 uint32_t paddockyear_tally(const uint32_t *votes, size_t votes_length, uint32_t *PADDOCKYEAR_RESTRICT values, size_t values_length,
-                           uint32_t *PADDOCKYEAR_RESTRICT counts, size_t counts_length, uint64_t *PADDOCKYEAR_RESTRICT pairs);
+                           uint64_t *PADDOCKYEAR_RESTRICT counts, size_t counts_length, uint64_t *PADDOCKYEAR_RESTRICT pairs);
 
 #ifdef __cplusplus
 }

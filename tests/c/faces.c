@@ -258,7 +258,8 @@ static void find_faults(void) {
 static void take_results(void) {
     uint8_t receipt[PADDOCKYEAR_RECEIPT_LENGTH] = {0};
     size_t length = sizeof joined - 1;
-    uint32_t out[N], values[N] = {90, 91, 92}, counts[N] = {80, 81, 82};
+    uint32_t out[N], values[N] = {90, 91, 92};
+    uint64_t counts[N] = {80, 81, 82};
     uint64_t pairs = 77;
     EXPECT(18, paddockyear_check_receipt(NONE, NONE));
     EXPECT(18, paddockyear_check_receipt(joined, length, NONE));

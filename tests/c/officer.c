@@ -110,14 +110,15 @@ static void check_receipt(void) {
 }
 
 static void count_votes(void) {
-    uint32_t announced[BALLOTS] = {0}, values[BALLOTS] = {0}, counts[BALLOTS] = {0};
+    uint32_t announced[BALLOTS] = {0}, values[BALLOTS] = {0};
+    uint64_t counts[BALLOTS] = {0};
     uint64_t pairs = 0;
     uint32_t answer = paddockyear_announced_votes(LENT(joined), LENT(announced));
     expect(0, answer, "announced_votes");
     answer = paddockyear_tally(LENT(announced), LENT(values), LENT(counts), &pairs);
     expect(0, answer, "tally");
     demand(pairs <= BALLOTS, "there are no more pairs than votes");
-    for (size_t i = 0; i < pairs; i++) printf("%" PRIu32 " %" PRIu32 "\n", values[i], counts[i]);
+    for (size_t i = 0; i < pairs; i++) printf("%" PRIu32 " %" PRIu64 "\n", values[i], counts[i]);
 }
 
 static void be_refused(void) {

@@ -9,7 +9,8 @@
 /* The longest record and one byte more: what is longer than a record may be is refused by then. */
 static uint8_t record[PADDOCKYEAR_RECORD_LENGTH(PADDOCKYEAR_MOST_BALLOTS, PADDOCKYEAR_MOST_COMPARED) + 1];
 
-static uint32_t votes[PADDOCKYEAR_MOST_BALLOTS], values[PADDOCKYEAR_MOST_BALLOTS], counts[PADDOCKYEAR_MOST_BALLOTS];
+static uint32_t votes[PADDOCKYEAR_MOST_BALLOTS], values[PADDOCKYEAR_MOST_BALLOTS];
+static uint64_t counts[PADDOCKYEAR_MOST_BALLOTS];
 
 /* Prints the tally of an accepted record; answers 0, as it then must. */
 static uint32_t print_tally(size_t length) {
@@ -17,7 +18,7 @@ static uint32_t print_tally(size_t length) {
     uint64_t pairs = 0;
     uint32_t answer = paddockyear_announced_votes(record, length, votes, ballots);
     if (answer == PADDOCKYEAR_DONE) answer = paddockyear_tally(votes, ballots, values, ballots, counts, ballots, &pairs);
-    for (uint64_t i = 0; i < pairs; i++) printf("vote %" PRIu32 ": %" PRIu32 "\n", values[i], counts[i]);
+    for (uint64_t i = 0; i < pairs; i++) printf("vote %" PRIu32 ": %" PRIu64 "\n", values[i], counts[i]);
     return answer;
 }
 

@@ -23,7 +23,8 @@ static struct paddockyear_throws throws = {LENT(dice), LENT(dice), 0, 0, 0, LENT
 static const struct paddockyear_parts parts = {LENT(one), LENT(two), LENT(three), LENT(joined)};
 
 static uint8_t command[PADDOCKYEAR_COMMAND_LENGTH], receipt[PADDOCKYEAR_RECEIPT_LENGTH], digest[32];
-static uint32_t out[BALLOTS], values[BALLOTS], counts[BALLOTS], answer;
+static uint32_t out[BALLOTS], values[BALLOTS], answer;
+static uint64_t counts[BALLOTS];
 static uint64_t lanes[25], place, pairs;
 
 static void keccak_f(void) { paddockyear_keccak_f(lanes); }
