@@ -7,7 +7,6 @@ ghost use Rattle.laws.specs.Lent.{before, after};
 ghost use Rattle.laws.specs.Sums.{oneIf};
 ghost use Rattle.laws.specs.Tests.{below};
 ghost use Rattle.laws.specs.Writing.{Went};
-ghost use Rattle.protocol.specs.Terms.{decimal};
 ghost use Rattle.protocol.specs.Drawing.{hexDigit, hexDigits, challenge, drawHash, listHash, drawnMask, drawnSide};
 ghost use Rattle.challenge.specs.Text.{textFrom};
 
@@ -39,18 +38,6 @@ fn put_hex(out: &mut [u8], at: usize, s: &[u8]) -> usize
     next
 }
 
-// Writes x in decimal from a place on, and answers the next place: all digits but the last, then the last.
-pub fn put_decimal(out: &mut [u8], at: usize, x: u32) -> usize
-    requires { ⌜ at + length (decimal x) ≤ length (now out) ⌝ }
-    ensures { λ r. ⌜ Went (before out) at (decimal x) (after out) r ⌝ }
-{
-    if x < 10 {
-        return wire::put1(out, at, 48 + x);
-    }
-    let next = put_decimal(out, at, x / 10);
-    wire::put1(out, next, 48 + x % 10)
-}
-
 // Q of the dice, from the sponge that has taken every record byte before the dice command.
 pub fn text(dice: &[u8], prefix: sha3::Sponge) -> [u8; 86]
     requires { ⌜ (length (now dice) ≡ 30) × (prefix .fill < 144) ⌝ }
@@ -79,7 +66,7 @@ fn draw_hash(i: u32, q: &[u8; 86], last: u8, out: &mut [u8; 28])
     ensures { λ _. ⌜ after out ≡ drawHash i (before q) last ⌝ }
 {
     let mut number = [0u8; 10];
-    let n = put_decimal(&mut number, 0, i);
+    let n = decimals::put_decimal(&mut number, 0, i);
     let end = [last];
     let s = sha3::absorb(sha3::start(), 144, &number[..n]);
     let t = sha3::absorb(s, 144, q);

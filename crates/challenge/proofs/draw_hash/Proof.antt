@@ -10,7 +10,8 @@ use Rattle.sha3.specs.Sha3.{absorbBytes, empty, padded, squeeze, sha3-224}
 use Rattle.sha3.proofs.Digest.{digest-three}
 use Rattle.protocol.specs.Terms.{decimal}
 use Rattle.protocol.specs.Drawing.{drawHash}
-use Rattle.challenge.proofs.Digits.{decimal-length, written}
+use Rattle.decimals.proofs.Digits.{decimal-length}
+use Rattle.challenge.proofs.Digits.{written}
 use Rattle.challenge.proofs.draw_hash.Statement.{statement}
 use Rattle.challenge.proofs.draw_hash.Tie as tie
 

@@ -1,17 +1,17 @@
--- `challenge::put_decimal` meets its contract: one digit, or the last behind those of x / 10. The measure is x.
+-- `decimals::put_decimal` meets its contract: one digit, or the last behind those of x / 10. The measure is x.
 use Prim.Native.Nat.{ℕ, _<_}
 use native.Mathlib.Omega.{arith}
 use borrow.Author.Needs.{needs}
 use borrow.Fn.Kinds.{In}
 use borrow.Fn.PlainCycle.{Measures, is, falls, and}
-use Rattle.challenge.proofs.put_decimal.Reads as put-decimal
-use Rattle.challenge.proofs.put_decimal.Kinds as put-decimal-kinds
-use Rattle.challenge.proofs.+put_decimal.Lts-put_decimal as put-decimal-lts
+use Rattle.decimals.proofs.put_decimal.Reads as put-decimal
+use Rattle.decimals.proofs.put_decimal.Kinds as put-decimal-kinds
+use Rattle.decimals.proofs.+put_decimal.Lts-put_decimal as put-decimal-lts
 use Rattle.laws.specs.Writing.{go-on, go-same}
-use Rattle.challenge.proofs.Digits.{decimal-one, decimal-more, decimal-one-long, decimal-more-long}
+use Rattle.decimals.proofs.Digits.{decimal-one, decimal-more, decimal-one-long, decimal-more-long}
 use Rattle.wire.proofs.put1.Reads as put1-reads
-use Rattle.challenge.proofs.+put_decimal.{statement}
-use Rattle.challenge.proofs.+put_decimal.Tie.{close}
+use Rattle.decimals.proofs.+put_decimal.{statement}
+use Rattle.decimals.proofs.+put_decimal.Tie.{close}
 
 abbrev μ-put-decimal : Measures 1 put-decimal-kinds.ps ℕ
 μ-put-decimal κs a = a .1 .1 .0
