@@ -1,1 +1,6 @@
-pub mod Answers
+pub mod Reaching
+pub mod Receipting
+pub mod Announcing
+pub mod Distinct
+pub mod Tallied
+pub mod Lines

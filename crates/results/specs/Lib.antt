@@ -1,1 +1,3 @@
 pub mod Ready
+pub mod Tallies
+pub mod Pages

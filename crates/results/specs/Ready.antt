@@ -1,13 +1,23 @@
--- All ballots stand, and a receipt has its length.
+-- What the functions that read a record need: it reaches so far, and a lent slice has its length.
 use mathlib.Core.Path.{_≡_}
 use mathlib.Core.List.{List}
-use Prim.Native.Nat.{ℕ, _≤_}
+use Prim.Native.Nat.{ℕ, _+_, _*_, _≤_}
 use lib.ListN.{length}
 use Rattle.protocol.specs.declared.Parameters.{Parameters}
 use Rattle.protocol.specs.Terms.{mostBallots}
-use Rattle.protocol.specs.Layout.{atBallot}
+use Rattle.protocol.specs.Layout.{atBallot, atVote}
+use Rattle.protocol.specs.Record.{parametersOf}
+use Rattle.layout.specs.Bounds.{Few}
 
+-- all ballots stand, and a receipt has its length
 pub record BallotsReady (p : Parameters) (r printed : List ℕ) : Type 0 where
   pub few : p .ballots ≤ mostBallots
   pub reaches : atBallot p (p .ballots) ≤ length r
   pub long : length printed ≡ 32
+
+-- all announced votes stand, and an output has one number a ballot
+pub record VotesReady (p : Parameters) (r : List ℕ) (outLong : ℕ) : Type 0 where
+  pub is : p ≡ parametersOf r
+  pub few : Few p
+  pub reaches : atVote p 0 + 7 * p .ballots ≤ length r
+  pub long : outLong ≡ p .ballots

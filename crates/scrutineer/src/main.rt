@@ -1,90 +1,114 @@
-// The scrutineer's program: reads a record from standard input, judges it as drawn and writes the page of document 01. It decides nothing:
-// verdict, votes and tally are answers of proved functions.
+// The scrutineer's program: reads a record from standard input, judges it as drawn and writes the page of document 01.
+ghost use mathlib.Core.Bool.{true};
+ghost use mathlib.Core.List.{[], _∷_, _++_};
 ghost use mathlib.Core.Path.{_≡_};
+ghost use Prim.Native.Nat.{_+_, _*_, _≤_};
 ghost use lib.ListN.{length};
+ghost use Rattle.laws.specs.Lent.{before, after};
+ghost use Rattle.laws.specs.Writing.{Went};
+ghost use Rattle.protocol.specs.Terms.{decimal};
+ghost use Rattle.protocol.specs.Judging.{firstFault};
+ghost use Rattle.protocol.specs.Results as definitions;
+ghost use Rattle.scrutineer.specs.Lengths.{pageMost, Read};
+use laws::Found;
+use libc::STDERR_FILENO;
 use libc::STDIN_FILENO;
 use libc::STDOUT_FILENO;
-use protocol::Tally;
-use protocol::Verdict;
-use protocol::Written;
+use protocol::MOST_BALLOTS;
 
-// The line `REFUSED`, a space and the number.
-fn print_refusal(number: u32) {
-    io::write_all(STDOUT_FILENO, b"REFUSED ");
-    io::print_decimal(STDOUT_FILENO, number as u64);
-    io::write_all(STDOUT_FILENO, b"\n");
-}
+// The most bytes that a record may have.
+const LONGEST_RECORD: usize = 65536;
 
-// A line of a vote, one space, and how often it was announced.
-fn print_line(vote: u32, count: u32) {
-    let mut line = [0u8; 22];
-    let n = tally::put_line(&mut line, 0, vote, count);
-    io::write_all(STDOUT_FILENO, &line[..n]);
-}
+// The most bytes that a page may have: the first line, and a line of at most 22 for each ballot.
+const LONGEST_PAGE: usize = 9 + 22 * MOST_BALLOTS;
 
-// A line for each of the first pairs.
-fn print_lines(values: &[u32], counts: &[u32], pairs: usize) {
-    let mut i: usize = 0;
-    while i < pairs {
-        if values.len() <= i {
-            return;
-        }
-        if counts.len() <= i {
-            return;
-        }
-        print_line(values[i], counts[i]);
-        i += 1;
-    }
-}
+// ---- the page
 
-// The tally of the votes that an accepted record announces, by way of three slices of one number a ballot.
-fn print_tally(bytes: &[u8], votes: &mut [u32], values: &mut [u32], counts: &mut [u32]) {
-    match results::announced_votes(bytes, votes) {
-        Written::Refused(_) => {}
-        Written::Done => match tally::tally(votes, values, counts) {
-            Tally::Refused(_) => {}
-            Tally::Pairs(pairs) => print_lines(values, counts, pairs),
-        },
-    }
-}
-
-// A zero for each ballot that a record may have. The contract gives only the length, which lending the array as a slice needs.
-fn numbers() -> [u32; 1024]
-    ensures { λ r. ⌜ 1024 ≡ length r ⌝ }
+// Writes the page of a record that breaks a rule, and answers its length.
+fn put_refused(number: u32, out: &mut [u8]) -> usize
+    requires { ⌜ pageMost ≤ length (now out) ⌝ }
+    ensures { λ r. ⌜ Went (before out) 0 (definitions.refusedWord ++ (decimal number ++ (10 ∷ []))) (after out) r ⌝ }
 {
-    [0; 1024]
+    let at = wire::copy(out, 0, b"REFUSED ");
+    let end = decimals::put_decimal(out, at, number);
+    wire::copy(out, end, b"\n")
 }
 
-// The line `ACCEPTED`, and the tally.
-fn print_accepted(bytes: &[u8]) {
-    io::write_all(STDOUT_FILENO, b"ACCEPTED\n");
-    let n = results::ballots(bytes);
-    if 1024 < n {
-        return;
+// Writes the page of an accepted record, and answers its length.
+fn put_accepted(bytes: &[u8], out: &mut [u8]) -> usize
+    requires { ⌜ (firstFault true (now bytes) ≡ Found.Nothing) × (pageMost ≤ length (now out)) ⌝ }
+    ensures { λ r. ⌜ Went (before out) 0 ((definitions.acceptedWord ++ (10 ∷ [])) ++ definitions.tallyLines (definitions.announcedVotes (before bytes))) (after out) r ⌝ }
+{
+    let at = wire::copy(out, 0, b"ACCEPTED\n");
+    results::page::put_result(bytes, out, at)
+}
+
+// Writes the page of what was read, and answers its length. What lies behind it is unchanged.
+fn put_page(bytes: &[u8], out: &mut [u8; LONGEST_PAGE]) -> usize
+    ensures output { λ _. ⌜ after out ≡ definitions.inFront (definitions.page (before bytes)) (before out) ⌝ }
+    ensures answer { λ r. ⌜ r ≡ length (definitions.page (before bytes)) ⌝ }
+{
+    if LONGEST_RECORD < bytes.len() {
+        return wire::copy(out, 0, b"TOO LONG\n");
     }
-    let mut votes = numbers();
-    let mut values = numbers();
-    let mut counts = numbers();
-    print_tally(bytes, &mut votes[..n], &mut values[..n], &mut counts[..n]);
+    match verifier::first_fault(bytes, true) {
+        Found::Nothing => put_accepted(bytes, out),
+        Found::Fault(number, _) => put_refused(number, out),
+    }
 }
 
-// The page of a record.
+// ---- what is read
+
+// So many bytes, or a standard input that cannot be read.
+enum Input {
+    Bytes(usize),
+    Unreadable,
+}
+
+// Reads until the buffer is full or standard input ends.
+fn read_input(buf: &mut [u8]) -> Input
+    ensures { λ r. ⌜ Read r (length (after buf)) ⌝ }
+{
+    let mut n: usize = 0;
+    while n < buf.len() {
+        let got = libc::read(STDIN_FILENO, &mut buf[n..]);
+        if got < 0 {
+            return Input::Unreadable;
+        }
+        let k = io::count(got, &buf[n..]);
+        if k == 0 {
+            return Input::Bytes(n);
+        }
+        n += k;
+    }
+    Input::Bytes(n)
+}
+
+// Room for one byte more than a record may have. The contract gives only the length, which lending the array as a slice needs.
+fn buffer() -> [u8; LONGEST_RECORD + 1]
+    ensures { λ r. ⌜ 65537 ≡ length r ⌝ }
+{
+    [0; LONGEST_RECORD + 1]
+}
+
+fn blank_page() -> [u8; LONGEST_PAGE]
+    ensures { λ r. ⌜ pageMost ≡ length r ⌝ }
+{
+    [0; LONGEST_PAGE]
+}
+
 fn print_page(bytes: &[u8]) {
-    match verifier::judge_as_drawn(bytes) {
-        Verdict::Accepted => print_accepted(bytes),
-        Verdict::Refused(number) => print_refusal(number),
-    }
+    let mut page = blank_page();
+    let n = put_page(bytes, &mut page);
+    io::write_all(STDOUT_FILENO, &page[..n]);
 }
 
-// The buffer holds 65,536 bytes; one byte more is too long.
 fn main() {
-    let mut record = io::large_buffer();
-    let n = io::read_full(STDIN_FILENO, &mut record);
-    let mut more = [0u8; 1];
-    let m = io::read_full(STDIN_FILENO, &mut more);
-    if 0 < m {
-        io::write_all(STDOUT_FILENO, b"TOO LONG\n");
-        return;
+    let mut record = buffer();
+    match read_input(&mut record) {
+        Input::Bytes(n) => print_page(&record[..n]),
+        Input::Unreadable => {
+            io::write_all(STDERR_FILENO, b"standard input cannot be read\n");
+        }
     }
-    print_page(&record[..n]);
 }

@@ -1,3 +1,0 @@
-pub mod Votes
-pub mod Tallied
-pub mod Endings
