@@ -1,5 +1,5 @@
 -- A round on the state with six lanes complemented gives the round's state with the same six complemented, for words of any kind
--- that has five laws. Assumes nothing.
+-- that has five laws.
 use mathlib.Core.Path.{_≡_, refl}
 use Prim.Native.Nat.{ℕ}
 use Rattle.keccak.specs.Keccak.{rotationOffsets}

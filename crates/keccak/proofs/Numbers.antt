@@ -1,5 +1,5 @@
 -- The numbers below 2^64 are words with the five laws, and the rounds of the code are the rounds of the standard.
--- Assumes nothing.
+--
 use mathlib.Core.Bool.{Bool, true, _&&_}
 use store.Enc.{and-l, and-r}
 use mathlib.Core.Path.{_≡_, refl, sym, ap, ap₂, _∙_, subst}

@@ -1,4 +1,4 @@
--- `bitXor` is associative: it holds of the lowest bits, and by induction of the rest. Assumes nothing.
+-- `bitXor` is associative: it holds of the lowest bits, and by induction of the rest.
 use mathlib.Core.Path.{_≡_, refl, sym, ap, ap₂, _∙_}
 use mathlib.Core.Logic.{_⊎_, inl, inr}
 use Prim.Native.Nat.{ℕ, zero, suc, _+_, _*_, _/_, _%_, _<_}

@@ -1,4 +1,4 @@
--- The digest a byte at a time is the digest of FIPS 202, a block at a time. Assumes nothing.
+-- The digest a byte at a time is the digest of FIPS 202, a block at a time.
 use mathlib.Core.Path.{_≡_, refl, sym, ap, ap₂, _∙_}
 use mathlib.Core.List.{List, [], _∷_, _++_}
 use Prim.Native.Nat.{ℕ, zero, suc, _+_, _-_, _*_, _/_, _%_, _^_, _≤_, _<_}

@@ -1,4 +1,4 @@
--- What others may know of a digest: its length, its bytes, and that a message may come in pieces. Assumes nothing.
+-- What others may know of a digest: its length, its bytes, and that a message may come in pieces.
 use mathlib.Core.Path.{_≡_, ap, _∙_}
 use mathlib.Core.List.{List, _++_}
 use Prim.Native.Nat.{ℕ}

@@ -1,4 +1,4 @@
--- Laws of bytes that are added to a state. Assumes nothing.
+-- Laws of bytes that are added to a state.
 use mathlib.Core.Path.{_≡_, refl, sym, ap, ap₂, _∙_}
 use mathlib.Core.List.{List, [], _∷_}
 use Prim.Native.Nat.{ℕ, suc, _+_, _*_, _/_, _%_, _^_, _≤_, _<_}

@@ -1,4 +1,4 @@
--- Laws of squeezing: the length of what comes out, and the loops that write it. Assumes nothing.
+-- Laws of squeezing: the length of what comes out, and the loops that write it.
 use mathlib.Core.Path.{_≡_, refl, ap, ap₂, _∙_}
 use mathlib.Core.List.{List, [], _∷_, _++_}
 use Prim.Native.Nat.{ℕ, zero, suc, _+_, _*_, _/_, _%_, _^_, _≤_, _<_}

@@ -1,4 +1,4 @@
--- Laws of absorbing: a byte, a word, bytes that leave room, and a message in pieces. Assumes nothing.
+-- Laws of absorbing: a byte, a word, bytes that leave room, and a message in pieces.
 use mathlib.Core.Path.{_≡_, refl, sym, ap, ap₂, _∙_, subst}
 use mathlib.Core.Bool.{Bool}
 use mathlib.Core.List.{List, [], _∷_, _++_}

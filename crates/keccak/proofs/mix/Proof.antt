@@ -1,4 +1,4 @@
--- Each parity, and each turned one, put into the definition. Assumes nothing.
+-- Each parity, and each turned one, put into the definition.
 use borrow.Author.Needs.{needs}
 use Rattle.keccak.specs.Rows.{sides, flat, sideOf, columnOf}
 use Rattle.keccak.proofs.mix.Statement.{statement}

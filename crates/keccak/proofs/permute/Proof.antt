@@ -1,4 +1,4 @@
--- The invariant: after i turns of the loop the state is that of 4 i rounds, six lanes complemented. Assumes nothing.
+-- The invariant: after i turns of the loop the state is that of 4 i rounds, six lanes complemented.
 use mathlib.Core.Path.{_≡_, ap, _∙_}
 use Prim.Native.Nat.{ℕ, _≤_, _<_, _-_, _*_, _+_, _^_}
 use mathlib.Core.List.{List}

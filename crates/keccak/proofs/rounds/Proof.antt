@@ -1,4 +1,4 @@
--- Each of the four rounds is the definition's, row by row. Assumes nothing.
+-- Each of the four rounds is the definition's, row by row.
 use mathlib.Core.Path.{ap, _∙_}
 use borrow.Author.Needs.{needs}
 use Rattle.keccak.specs.Rows.{codeRound}

@@ -1,4 +1,4 @@
--- `row0` computes `chi0Of` of the gathered lanes. Assumes nothing.
+-- `row0` computes `chi0Of` of the gathered lanes.
 use borrow.Author.Needs.{needs}
 use Rattle.keccak.specs.Rows.{numbers, chi0Of}
 use Rattle.keccak.proofs.Numbers.{row-is}

@@ -1,4 +1,4 @@
--- `row1` computes `chi1Of` of the gathered lanes. Assumes nothing.
+-- `row1` computes `chi1Of` of the gathered lanes.
 use borrow.Author.Needs.{needs}
 use Rattle.keccak.specs.Rows.{numbers, chi1Of}
 use Rattle.keccak.proofs.Numbers.{row-is}

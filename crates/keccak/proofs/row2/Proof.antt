@@ -1,4 +1,4 @@
--- `row2` computes `chi2Of` of the gathered lanes. Assumes nothing.
+-- `row2` computes `chi2Of` of the gathered lanes.
 use borrow.Author.Needs.{needs}
 use Rattle.keccak.specs.Rows.{numbers, chi2Of}
 use Rattle.keccak.proofs.Numbers.{row-is}

@@ -1,4 +1,4 @@
--- `row3` computes `chi3Of` of the gathered lanes. Assumes nothing.
+-- `row3` computes `chi3Of` of the gathered lanes.
 use borrow.Author.Needs.{needs}
 use Rattle.keccak.specs.Rows.{numbers, chi3Of}
 use Rattle.keccak.proofs.Numbers.{row-is}

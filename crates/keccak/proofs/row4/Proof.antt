@@ -1,4 +1,4 @@
--- `row4` computes `chi4Of` of the gathered lanes. Assumes nothing.
+-- `row4` computes `chi4Of` of the gathered lanes.
 use borrow.Author.Needs.{needs}
 use Rattle.keccak.specs.Rows.{numbers, chi4Of}
 use Rattle.keccak.proofs.Numbers.{row-is}

@@ -1,4 +1,4 @@
--- Two shifts are the rotation, at 0 too. Assumes nothing.
+-- Two shifts are the rotation, at 0 too.
 use native.Mathlib.Omega.{arith}
 use borrow.Author.Needs.{needs}
 use Rattle.keccak.proofs.Numbers.{turn-is}

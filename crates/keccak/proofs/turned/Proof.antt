@@ -1,4 +1,4 @@
--- The code's table of offsets is the definition's, and each offset is below 64. Assumes nothing.
+-- The code's table of offsets is the definition's, and each offset is below 64.
 use borrow.Author.Needs.{needs}
 use Prim.Native.Nat.{_+_, _*_}
 use Rattle.keccak.specs.Keccak.{rotationOffsets}

@@ -1,4 +1,4 @@
--- The digest at the rate 136, as long as the buffer, which has 32 bytes. Assumes nothing.
+-- The digest at the rate 136, as long as the buffer, which has 32 bytes.
 use mathlib.Core.List.{_++_}
 use borrow.Author.Needs.{needs}
 use Rattle.sha3.specs.Sha3.{sha3-256}

@@ -1,4 +1,4 @@
--- The invariant: what is left of the message gives, from the sponge at hand, what the whole gives from the first. Assumes nothing.
+-- The invariant: what is left of the message gives, from the sponge at hand, what the whole gives from the first.
 use mathlib.Core.Path.{_≡_, refl, sym, ap, _∙_}
 use mathlib.Core.Logic.{⊎-elim}
 use mathlib.Core.List.{List, []}

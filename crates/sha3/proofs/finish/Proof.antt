@@ -1,4 +1,4 @@
--- What the four calls ensure, one in the other, is the digest. Assumes nothing.
+-- What the four calls ensure, one in the other, is the digest.
 use borrow.Author.Needs.{needs}
 use Rattle.sha3.specs.Sha3.{padded}
 use Rattle.sha3.proofs.finish.Statement.{statement}

@@ -1,4 +1,4 @@
--- What the three calls ensure is the digest. Assumes nothing.
+-- What the three calls ensure is the digest.
 use mathlib.Core.Path.{ap, _∙_}
 use lib.ListN.{length}
 use borrow.Author.Needs.{needs}

@@ -1,4 +1,4 @@
--- What the calls ensure, one in the other, is the digest of the three parts joined. Assumes nothing.
+-- What the calls ensure, one in the other, is the digest of the three parts joined.
 use mathlib.Core.Path.{sym, ap, _∙_}
 use borrow.Author.Needs.{needs}
 use lib.ListN.{length}

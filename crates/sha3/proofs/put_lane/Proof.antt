@@ -1,4 +1,4 @@
--- The invariant: the first j bytes of the lane are written. Assumes nothing.
+-- The invariant: the first j bytes of the lane are written.
 use mathlib.Core.Path.{_≡_, refl, ap, _∙_}
 use Prim.Native.Nat.{_+_, _-_, _*_, _/_, _^_, _≤_}
 use native.Mathlib.Nat.{le-antisymm}

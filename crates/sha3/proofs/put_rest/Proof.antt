@@ -1,4 +1,4 @@
--- The invariant: the first i bytes of the buffer are the first i of the state. Assumes nothing.
+-- The invariant: the first i bytes of the buffer are the first i of the state.
 use mathlib.Core.Path.{_≡_, sym, ap, _∙_}
 use Prim.Native.Nat.{_-_, _*_, _/_, _%_, _^_, _≤_}
 use native.Mathlib.Nat.{le-antisymm}

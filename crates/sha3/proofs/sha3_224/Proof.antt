@@ -1,4 +1,4 @@
--- The digest at the rate 144, as long as the buffer, which has 28 bytes. Assumes nothing.
+-- The digest at the rate 144, as long as the buffer, which has 28 bytes.
 use borrow.Author.Needs.{needs}
 use Rattle.sha3.specs.Sha3.{sha3-224}
 use Rattle.sha3.proofs.Digest.{digest-sized}

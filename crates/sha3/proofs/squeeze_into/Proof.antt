@@ -1,4 +1,4 @@
--- The invariant: the first k lanes of the state are written. Assumes nothing.
+-- The invariant: the first k lanes of the state are written.
 use mathlib.Core.Path.{_≡_, refl, ap, _∙_}
 use Prim.Native.Nat.{_+_, _-_, _*_, _/_, _≤_}
 use native.Mathlib.Nat.{le-antisymm}

@@ -1,4 +1,4 @@
--- The definition computes to what the code makes. Assumes nothing.
+-- The definition computes to what the code makes.
 use mathlib.Core.Path.{refl}
 use Rattle.sha3.specs.Sha3.{empty}
 use Rattle.sha3.proofs.start.Statement.{statement}

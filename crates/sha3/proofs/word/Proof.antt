@@ -1,4 +1,4 @@
--- No shift of a byte loses bits, so the word is the definition's. Assumes nothing.
+-- No shift of a byte loses bits, so the word is the definition's.
 use Prim.Native.Nat.{_+_}
 use native.Mathlib.Omega.{arith}
 use borrow.Author.Needs.{needs}

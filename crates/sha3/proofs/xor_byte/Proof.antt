@@ -1,4 +1,4 @@
--- The shift of a byte loses no bits. Assumes nothing.
+-- The shift of a byte loses no bits.
 use mathlib.Core.Path.{ap}
 use Prim.Native.Nat.{ℕ, _/_, _%_, _*_}
 use native.Mathlib.Omega.{arith}

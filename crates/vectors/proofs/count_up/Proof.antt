@@ -1,4 +1,4 @@
--- The invariant: `i` is at most the length, which stays. Assumes nothing.
+-- The invariant: `i` is at most the length, which stays.
 use mathlib.Core.Path.{_≡_, _∙_}
 use Prim.Native.Nat.{_≤_, _-_}
 use native.Mathlib.Omega.{arith}

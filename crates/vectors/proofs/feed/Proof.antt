@@ -1,4 +1,4 @@
--- The invariant: the sponge has room, and the next piece is not empty and no longer than `a`. Assumes nothing.
+-- The invariant: the sponge has room, and the next piece is not empty and no longer than `a`.
 use Prim.Native.Nat.{ℕ, _+_, _-_, _%_, _≤_, _<_}
 use native.Mathlib.Omega.{arith}
 use native.Mathlib.Nat.{mod-lt, mod-le}

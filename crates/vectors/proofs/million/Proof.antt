@@ -1,4 +1,4 @@
--- A sponge has room at the start. Assumes nothing.
+-- A sponge has room at the start.
 use borrow.Author.Needs.{needs}
 use Rattle.sha3.proofs.Taking.{start-fill}
 use Rattle.vectors.proofs.million.Statement.{statement}

@@ -1,4 +1,4 @@
--- Each buffer is as long as its digest. Assumes nothing.
+-- Each buffer is as long as its digest.
 use mathlib.Core.Path.{sym, ap, _∙_}
 use borrow.Author.Needs.{needs}
 use lib.ListN.{length}

@@ -1,4 +1,4 @@
--- The invariant: `i` is at most the length. Assumes nothing.
+-- The invariant: `i` is at most the length.
 use mathlib.Core.Path.{_≡_}
 use Prim.Native.Nat.{_≤_, _-_}
 use native.Mathlib.Omega.{arith}

@@ -1,4 +1,4 @@
--- The part has n bytes. Assumes nothing.
+-- The part has n bytes.
 use mathlib.Core.Path.{sym}
 use borrow.Author.Needs.{needs}
 use lib.Seq.{length-take-le}
