@@ -8,6 +8,7 @@ pub mod Transport
 pub mod Soundness
 pub mod Meetable
 pub mod Mixing
+pub mod Joining
 pub mod Honesty
 pub mod Unrefused
 pub mod Drawing
