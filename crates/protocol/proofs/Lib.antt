@@ -18,6 +18,7 @@ pub mod Operands
 pub mod Locating
 pub mod Reading
 pub mod Standing
+pub mod Tablets
 pub mod Lengths
 pub mod Faultless
 pub mod Agreeing

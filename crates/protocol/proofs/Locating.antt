@@ -67,11 +67,11 @@ module _ (b : Board)
         chunks-even entry (n * 196) m entries-long,
       )
 
-  first-in : At (partOne b) 0 (firstCommand (b .parameters))
+  pub first-in : At (partOne b) 0 (firstCommand (b .parameters))
   unfolding partOne
   first-in = at-left _ (at-self (firstCommand (b .parameters)))
 
-  ballot-in : (j : ℕ) → j < b .parameters .ballots → At (partOne b) (atBallot (b .parameters) j) (ballotCommand (b .id j) (b .ballotCommitment j))
+  pub ballot-in : (j : ℕ) → j < b .parameters .ballots → At (partOne b) (atBallot (b .parameters) j) (ballotCommand (b .id j) (b .ballotCommitment j))
   unfolding partOne atBallot
   ballot-in j lj =
       let n = b .parameters .ballots in
