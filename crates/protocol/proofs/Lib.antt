@@ -19,6 +19,7 @@ pub mod Locating
 pub mod Reading
 pub mod Standing
 pub mod Tablets
+pub mod Receipts
 pub mod Lengths
 pub mod Faultless
 pub mod Agreeing
