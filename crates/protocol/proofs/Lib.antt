@@ -27,6 +27,7 @@ pub mod Tested
 pub mod Within
 pub mod Accepting
 pub mod Announced
+pub mod Tallies
 pub mod Reencoding
 pub mod Completeness
 pub mod Demands
