@@ -8,9 +8,9 @@ pub mod Transport
 pub mod Soundness
 pub mod Meetable
 pub mod Mixing
-pub mod Joining
 pub mod Honesty
 pub mod Unrefused
+pub mod Joining
 pub mod Drawing
 pub mod Whole
 pub mod Widths
