@@ -4,7 +4,7 @@ use mathlib.Core.Path.{_≡_, refl, sym, ap, _∙_}
 use mathlib.Core.Logic.{_≢_}
 use mathlib.Core.Bool.{true, false}
 use mathlib.Core.List.{List, [], _∷_}
-use Prim.Native.Nat.{ℕ, _+_, _-_, _*_, _^_, _≤_, _<_}
+use Prim.Native.Nat.{ℕ, zero, suc, _+_, _-_, _*_, _^_, _≤_, _<_}
 use native.Mathlib.Nat.{mul-le-mul-left, add-zero}
 use native.Mathlib.Omega.{arith}
 use lib.Count.{ones, ones-cat, ones-ones}
@@ -16,18 +16,23 @@ use Rattle.laws.specs.Faults.{rule}
 use Rattle.protocol.specs.Answers.{accepted}
 use Rattle.protocol.specs.Terms.{parameters, inLimits, modulusInLimits, ballotsInLimits, listsInLimits, allBelow}
 use Rattle.protocol.specs.Columns.{isPermutation}
+use Rattle.protocol.specs.Layout.{atFirstDice, partThreeLength}
 use Rattle.protocol.specs.Record.{Board, Comparison, Disclosure, encoding}
-use Rattle.protocol.specs.Rules.{fairDie, fairDice}
+use Rattle.protocol.specs.Drawing.{challenge}
+use Rattle.protocol.specs.Rules.{fairDie, fairDice, rightShape}
 use Rattle.protocol.specs.Judging.{judged}
-use Rattle.protocol.specs.Inputs.{Slices, inputsOf, listPermutations, dueLengths, idsRise, allPermutations, refusal, partOneRefusal}
-use Rattle.protocol.specs.Servers.{postedBoard, postedComparison, postedDisclosure}
+use Rattle.protocol.specs.Inputs.{Slices, inputsOf, listPermutations, dueLengths, idsRise, allPermutations, refusal, partOneRefusal, partTwoDrawnRefusal, partThreeDrawnRefusal}
+use Rattle.protocol.specs.Servers.{postedBoard, postedComparison, postedDisclosure, firstPart, maskFor}
+use Rattle.protocol.specs.Results.{announcedVotes}
+use Rattle.protocol.specs.Election.{drawn, maskBy, secondRefusal, thirdRefusal, electionMask, electionRecord}
 use Rattle.protocol.specs.Demand3.{Triple}
 use Rattle.protocol.proofs.Fitting.{Fits}
 use Rattle.protocol.proofs.Goodness.{Good}
 use Rattle.protocol.proofs.Unrefused.{unrefused, good-inputs, shape-iff, binary-iff}
+use Rattle.protocol.proofs.Drawing.{drawn-mask}
 use Rattle.protocol.proofs.Reading.{read-parameters, read-mask, read-side}
 use Rattle.protocol.proofs.Standing.{read-before-first-dice, read-before-second-dice}
-use Rattle.protocol.proofs.Completeness.{Taken, written, board, comparison, disclosure, is-encoding, fits, written-accepted}
+use Rattle.protocol.proofs.Completeness.{Taken, written, board, comparison, disclosure, is-encoding, fits, written-accepted, Unrefusing, complete, complete-drawn}
 
 -- ---- three records of one board, two comparisons and opposite sides
 
@@ -152,3 +157,51 @@ tiny =
 pub tiny-unrefused : refusal tiny true true true true ≡ 0
 unfolding tiny refusal inLimits modulusInLimits ballotsInLimits listsInLimits dueLengths idsRise allBelow allPermutations isPermutation inputsOf listPermutations rule equal differ below atMost _and_ _or_ every
 tiny-unrefused = refl
+
+-- ---- three records of it, all of whose hypotheses hold
+
+abbrev allOnes : List ℕ
+allOnes = replicate 30 49
+
+tiny-ids : Below 4294967296 (tiny .ids)
+unfolding tiny
+tiny-ids zero l = omega arith
+tiny-ids (suc i) l = absurd (omega arith)
+
+-- part one of the smallest election has 597 bytes
+pub tiny-part-one : partOneRefusal tiny 597 ≡ 0
+unfolding tiny partOneRefusal atFirstDice refusal inLimits modulusInLimits ballotsInLimits listsInLimits dueLengths idsRise allBelow allPermutations isPermutation inputsOf listPermutations rule equal differ below atMost _and_ _or_ every
+tiny-part-one = refl
+
+-- masks 1 and 2; sides 0, 1 and 0
+pub tiny-triple : Triple (written tiny allOnes 1 allOnes (0 ∷ [])) (written tiny allOnes 1 allOnes (1 ∷ [])) (written tiny allOnes 2 allOnes (0 ∷ []))
+unfolding tiny
+tiny-triple = triple tiny 597 tiny-ids tiny-part-one
+
+-- ---- and what completeness supposes holds of it: mask and sides drawn
+
+-- part two has 45 bytes
+tiny-part-two : partTwoDrawnRefusal tiny allOnes 597 45 ≡ 0
+unfolding tiny partTwoDrawnRefusal atFirstDice fairDice fairDie refusal inLimits modulusInLimits ballotsInLimits listsInLimits dueLengths idsRise allBelow allPermutations isPermutation inputsOf listPermutations rule equal differ below atMost _and_ _or_ every
+tiny-part-two = refl
+
+-- part three has 483 bytes; of the mask only its shape counts
+tiny-part-three : (mask : ℕ) → rightShape 1 mask ≡ true → partThreeDrawnRefusal tiny allOnes mask 597 45 483 ≡ 0
+unfolding tiny partThreeDrawnRefusal atFirstDice partThreeLength fairDice fairDie refusal inLimits modulusInLimits ballotsInLimits listsInLimits dueLengths idsRise allBelow allPermutations isPermutation inputsOf listPermutations rule equal differ below atMost _and_ _or_ every
+tiny-part-three mask h = rw h
+
+tiny-unrefusing : Unrefusing tiny drawn allOnes drawn allOnes
+unfolding tiny secondRefusal thirdRefusal electionMask maskBy maskFor
+tiny-unrefusing = record {
+  one = (597, tiny-part-one);
+  two = (597, 45, tiny-part-two);
+  three = (597, 45, 483, tiny-part-three _ (drawn-mask 1 (challenge allOnes (firstPart tiny))));
+}
+
+-- drawn judging accepts its record, which announces its one vote
+pub tiny-accepted : judged true (electionRecord tiny drawn allOnes drawn allOnes) ≡ accepted
+tiny-accepted = complete-drawn tiny allOnes allOnes tiny-ids tiny-unrefusing
+
+pub tiny-announced : announcedVotes (electionRecord tiny drawn allOnes drawn allOnes) ≡ 1 ∷ []
+unfolding tiny
+tiny-announced = complete tiny drawn allOnes drawn allOnes tiny-ids tiny-unrefusing .1
