@@ -1,33 +1,32 @@
 -- Document 01, "Samples": the starred lines, and rows of our own for what they leave open, computed from the definitions. Each row
 -- has what the definitions give and what is expected; one fact is about all rows.
 use mathlib.Core.Path.{_≡_, refl}
+use mathlib.Core.Bool.{true, false}
 use mathlib.Core.List.{List, [], _∷_, _++_, map}
 use Prim.Native.Nat.{ℕ, _+_}
 use lib.Count.{ones}
+use lib.ListN.{length, take, replicate}
 use Rattle.laws.specs.Tests.{equal, differ, below, atMost, _and_, _or_, every, choose}
-use Rattle.laws.specs.Faults.{rule, kept}
+use Rattle.laws.specs.Faults.{rule, kept, located, _then_, first, numberOf}
 use Rattle.laws.specs.Sums.{oneIf}
 use Rattle.laws.specs.Bytes.{number, bytes}
 use Rattle.laws.specs.Tables.{tabulate}
 use Rattle.laws.specs.Modular.{plus, minus}
 use Rattle.laws.specs.Permuting.{permutes}
-use Rattle.protocol.specs.declared.Parameters.{Parameters}
-use Rattle.protocol.specs.Terms.{item, inLimits, modulusInLimits, ballotsInLimits, listsInLimits, opening, digits, decimal}
-use Rattle.protocol.specs.Tablet.{oneOfThree, share, slot, ballotCommand}
-use Rattle.protocol.specs.Columns.{row, thirdOffset, source, rowServer, thirdOffsets, secondHalves}
+use Rattle.protocol.specs.Terms.{parameters, item, allBelow, inLimits, modulusInLimits, ballotsInLimits, listsInLimits, opening, digits, decimal}
+use Rattle.protocol.specs.Tablet.{oneOfThree, share, slot, ballotCommand, receipt, tabletRefusal}
+use Rattle.protocol.specs.Columns.{row, thirdOffset, source, rowServer, thirdOffsets, secondHalves, isPermutation, rowRefusal, pairRefusal}
 use Rattle.protocol.specs.Layout.{atFirstDice, atSecondDice, atBallotHalf, atVote, atEnd, recordLength}
-use Rattle.protocol.specs.Record.{firstCommand, entryCommand, firstDiceCommand, linkCommand, ballotHalfCommand, listHalfCommand, voteCommand}
+use Rattle.protocol.specs.Record.{firstCommand, entryCommand, firstDiceCommand, linkCommand, secondDiceCommand, ballotHalfCommand, listHalfCommand, voteCommand, fullCommand, parametersOf}
 use Rattle.protocol.specs.Drawing.{hexDigit, hexDigits, drawFrom}
-use Rattle.protocol.specs.Rules.{rightShape, agrees}
-use Rattle.protocol.specs.Results.{fresh, distinctVotes, voteCounts, tallyLine, tallyLines, pageOf}
+use Rattle.protocol.specs.Rules.{fairDie, fairDice, rightShape, agrees, fault}
+use Rattle.protocol.specs.Judging.{found, ballotFaults}
+use Rattle.protocol.specs.Inputs.{Slices, given, Inputs, ballotNumbers, listNumbers, listPermutations, ballotKeys, entryKeys, inputsOf, dueLengths, idsRise, allPermutations, refusal}
+use Rattle.protocol.specs.Results.{fresh, distinctVotes, voteCounts, receiptRefusal, tallyRefusal, tooLongWord, tallyLine, tallyLines, pageOf, drawRefusal}
 
 pub record Row : Type 0 where
   pub computed : List ℕ
   pub expected : List ℕ
-
--- M, n and m
-sized : ℕ → ℕ → ℕ → Parameters
-sized M n m = record { modulus = M; ballots = n; compared = m }
 
 -- six numbers of a tablet
 six : ℕ → ℕ → ℕ → ℕ → ℕ → ℕ → ℕ → List ℕ
@@ -54,7 +53,7 @@ starred =
     -- "m = 2: mask 3 stands; mask 11 (three ones) and mask 17 (bit 4) are 7."
     ∷ record { computed = map (λ mask. rule 7 (rightShape 2 mask) kept) (3 ∷ 11 ∷ 17 ∷ []); expected = 0 ∷ 7 ∷ 7 ∷ [] }
     -- "n = 1, m = 1: 1,125 bytes; n = 8, m = 2: 14,347."
-    ∷ record { computed = recordLength (sized 2 1 1) ∷ recordLength (sized 2 8 2) ∷ []; expected = 1125 ∷ 14347 ∷ [] }
+    ∷ record { computed = recordLength (parameters 2 1 1) ∷ recordLength (parameters 2 8 2) ∷ []; expected = 1125 ∷ 14347 ∷ [] }
     -- "M = 100: ballot halves sum 36 and 88, list 90 and 34: t = 46 fits both sides."
     ∷ record { computed = oneIf (agrees 100 0 36 90 46) ∷ oneIf (agrees 100 1 88 34 46) ∷ []; expected = 1 ∷ 1 ∷ [] }
     -- "5, 2, 5 permutes 2, 5, 5; 2, 2, 5 does not."
@@ -80,34 +79,146 @@ own =
     ∷ record { computed = drawFrom (λ i. i) 0 4 2 ∷ drawFrom (λ i. 3) 0 4 2 ∷ []; expected = 5 ∷ 10 ∷ [] }
     -- limits: n = 1,024 stands, 1,025 does not; M = 1 does not; m = 12 stands, 13 does not
     ∷ record {
-      computed = oneIf (inLimits (sized 2 1024 12)) ∷ oneIf (inLimits (sized 2 1025 12)) ∷ oneIf (inLimits (sized 1 1 1)) ∷ oneIf (inLimits (sized 2 1 13)) ∷ oneIf (inLimits (sized 2 0 1)) ∷ oneIf (inLimits (sized 2 1 0)) ∷ [];
+      computed = oneIf (inLimits (parameters 2 1024 12)) ∷ oneIf (inLimits (parameters 2 1025 12)) ∷ oneIf (inLimits (parameters 1 1 1)) ∷ oneIf (inLimits (parameters 2 1 13)) ∷ oneIf (inLimits (parameters 2 0 1)) ∷ oneIf (inLimits (parameters 2 1 0)) ∷ [];
       expected = 1 ∷ 0 ∷ 0 ∷ 0 ∷ 0 ∷ 0 ∷ [];
     }
     -- a key, then a number, its most significant byte first
     ∷ record { computed = opening (9 ∷ 8 ∷ []) 16909060; expected = 9 ∷ 8 ∷ 1 ∷ 2 ∷ 3 ∷ 4 ∷ [] }
     -- operands in their order and widths
-    ∷ record { computed = firstCommand (sized 16909060 258 3); expected = 1 ∷ 1 ∷ 2 ∷ 3 ∷ 4 ∷ 1 ∷ 2 ∷ 3 ∷ [] }
+    ∷ record { computed = firstCommand (parameters 16909060 258 3); expected = 1 ∷ 1 ∷ 2 ∷ 3 ∷ 4 ∷ 1 ∷ 2 ∷ 3 ∷ [] }
     ∷ record { computed = ballotCommand 16909060 (λ q. q ∷ []); expected = 2 ∷ 1 ∷ 2 ∷ 3 ∷ 4 ∷ 0 ∷ 1 ∷ 2 ∷ 3 ∷ 4 ∷ 5 ∷ [] }
     ∷ record { computed = entryCommand 7 258 (λ q. q ∷ []); expected = 3 ∷ 7 ∷ 1 ∷ 2 ∷ 0 ∷ 1 ∷ 2 ∷ 3 ∷ 4 ∷ 5 ∷ [] }
     ∷ record { computed = firstDiceCommand (49 ∷ 54 ∷ []) 16909060; expected = 4 ∷ 49 ∷ 54 ∷ 1 ∷ 2 ∷ 3 ∷ 4 ∷ [] }
     ∷ record { computed = linkCommand 7 258 772 16909060; expected = 5 ∷ 7 ∷ 1 ∷ 2 ∷ 3 ∷ 4 ∷ 1 ∷ 2 ∷ 3 ∷ 4 ∷ [] }
+    ∷ record { computed = secondDiceCommand (49 ∷ 54 ∷ []); expected = 6 ∷ 49 ∷ 54 ∷ [] }
     ∷ record { computed = ballotHalfCommand 258 1 (λ k. k ∷ []); expected = 7 ∷ 1 ∷ 2 ∷ 1 ∷ 0 ∷ 1 ∷ 2 ∷ [] }
     ∷ record { computed = listHalfCommand 7 258 (λ k. k ∷ []); expected = 8 ∷ 7 ∷ 1 ∷ 2 ∷ 0 ∷ 1 ∷ 2 ∷ [] }
     ∷ record { computed = voteCommand 258 16909060; expected = 9 ∷ 1 ∷ 2 ∷ 1 ∷ 2 ∷ 3 ∷ 4 ∷ [] }
-    -- decimals without leading zeros: "0", "10", "1024"; hexadecimal digits in lower case: "ab05"
+    ∷ record { computed = fullCommand 7 258 (λ q. q ∷ []); expected = 10 ∷ 7 ∷ 1 ∷ 2 ∷ 0 ∷ 1 ∷ 2 ∷ 3 ∷ 4 ∷ 5 ∷ [] }
+    -- a receipt's id comes before its hash
+    ∷ record { computed = take 4 (receipt 16909060 []); expected = 1 ∷ 2 ∷ 3 ∷ 4 ∷ [] }
+    -- decimals without leading zeros: "0", "10", "1024"; hexadecimal digits in lower case: "ab05", "10ff9a"
     ∷ record { computed = decimal 0 ++ (decimal 10 ++ decimal 1024); expected = 48 ∷ 49 ∷ 48 ∷ 49 ∷ 48 ∷ 50 ∷ 52 ∷ [] }
     ∷ record { computed = hexDigits (171 ∷ 5 ∷ []); expected = 97 ∷ 98 ∷ 48 ∷ 53 ∷ [] }
-    -- the page of a record announcing 2, 5, 5, and one refused by rule 17
+    ∷ record { computed = hexDigits (16 ∷ 255 ∷ 154 ∷ []); expected = 49 ∷ 48 ∷ 102 ∷ 102 ∷ 57 ∷ 97 ∷ [] }
+    -- the page of a record announcing 2, 5, 5, and one refused by rule 17, and what an input that is too long gives
     ∷ record {
       computed = pageOf 0 (2 ∷ 5 ∷ 5 ∷ []);
       expected = 65 ∷ 67 ∷ 67 ∷ 69 ∷ 80 ∷ 84 ∷ 69 ∷ 68 ∷ 10 ∷ 50 ∷ 32 ∷ 49 ∷ 10 ∷ 53 ∷ 32 ∷ 50 ∷ 10 ∷ [];
     }
     ∷ record { computed = pageOf 17 []; expected = 82 ∷ 69 ∷ 70 ∷ 85 ∷ 83 ∷ 69 ∷ 68 ∷ 32 ∷ 49 ∷ 55 ∷ 10 ∷ [] }
+    ∷ record { computed = tooLongWord; expected = 84 ∷ 79 ∷ 79 ∷ 32 ∷ 76 ∷ 79 ∷ 78 ∷ 71 ∷ [] }
+    ∷ []
+
+-- where the inputs stand in their slices, n = 2 and m = 1: numbers and places are told by their own index
+indices : ℕ → List ℕ
+indices n = tabulate (λ i. i) n
+
+lent : List ℕ → Inputs
+lent keys = inputsOf (given (parameters 100 2 1) (11 ∷ 12 ∷ []) (21 ∷ 22 ∷ []) (indices 46) (indices 12) keys)
+
+-- keys of 0, with 1, 2, 3 at a place
+keysWith : ℕ → List ℕ
+keysWith at = replicate at 0 ++ (1 ∷ 2 ∷ 3 ∷ [])
+
+placed : List Row
+placed =
+    let s = lent [] in
+    record { computed = s .id 1 ∷ s .vote 1 ∷ []; expected = 12 ∷ 22 ∷ [] }
+    -- "numbers, per ballot x, y, u1, u2, u3"
+    ∷ record { computed = s .x 1 ∷ s .y 1 ∷ s .firstHalf 1 0 ∷ s .firstHalf 1 1 ∷ s .firstHalf 1 2 ∷ []; expected = 5 ∷ 6 ∷ 7 ∷ 8 ∷ 9 ∷ [] }
+    -- "then per list three columns of n offset pairs (rows one and two ..)": by list, column, row and place
+    ∷ record {
+      computed = s .offset 0 0 0 0 ∷ s .offset 0 0 1 0 ∷ s .offset 0 0 0 1 ∷ s .offset 0 1 0 0 ∷ s .offset 1 0 0 0 ∷ s .offset 1 2 1 1 ∷ [];
+      expected = 10 ∷ 11 ∷ 12 ∷ 14 ∷ 28 ∷ 39 ∷ [];
+    }
+    -- "and n triples of first halves (by list position)": by list, position and row
+    ∷ record {
+      computed = s .entryFirstHalf 0 0 0 ∷ s .entryFirstHalf 0 0 1 ∷ s .entryFirstHalf 0 1 0 ∷ s .entryFirstHalf 1 0 0 ∷ s .entryFirstHalf 1 1 2 ∷ [];
+      expected = 22 ∷ 23 ∷ 25 ∷ 40 ∷ 45 ∷ [];
+    }
+    -- "permutations, three per list": by list, column and place
+    ∷ record { computed = s .permutation 0 0 1 ∷ s .permutation 0 1 0 ∷ s .permutation 1 0 0 ∷ s .permutation 1 2 1 ∷ []; expected = 1 ∷ 2 ∷ 6 ∷ 11 ∷ [] }
+    -- "keys, 192 bytes per ballot, then per list and position": slot 1 of ballot 1, slot 2 of list 1 and position 1
+    ∷ record { computed = lent (keysWith 224) .ballotKey 1 1; expected = 1 ∷ 2 ∷ 3 ∷ [] }
+    ∷ record { computed = lent (keysWith 1024) .entryKey 1 1 2; expected = 1 ∷ 2 ∷ 3 ∷ [] }
+    ∷ record { computed = length (lent (replicate 1152 0) .ballotKey 1 5) ∷ length (lent (replicate 1152 0) .entryKey 1 1 5) ∷ []; expected = 32 ∷ 32 ∷ [] }
+    ∷ []
+
+-- the slices of an election of two ballots and two lists, M = 100
+slices : List ℕ → List ℕ → List ℕ → Slices
+slices ids votes permutation = given (parameters 100 2 1) ids votes (replicate 46 99) (permutation ++ (0 ∷ 1 ∷ 1 ∷ 0 ∷ 0 ∷ 1 ∷ 1 ∷ 0 ∷ 0 ∷ 1 ∷ [])) (replicate 1152 0)
+
+refusals : List Row
+refusals =
+    -- a tablet: the modulus; each of three lengths; each of six numbers; in this order
+    record {
+      computed = tabletRefusal 2 1 1 1 1 1 1 192 197 32 ∷ tabletRefusal 1 9 9 9 9 9 9 0 0 0 ∷ tabletRefusal 4294967296 0 0 0 0 0 0 192 197 32 ∷ [];
+      expected = 0 ∷ 3 ∷ 3 ∷ [];
+    }
+    ∷ record {
+      computed = tabletRefusal 2 9 9 9 9 9 9 191 197 32 ∷ tabletRefusal 2 0 0 0 0 0 0 192 196 32 ∷ tabletRefusal 2 0 0 0 0 0 0 192 197 31 ∷ [];
+      expected = 18 ∷ 18 ∷ 18 ∷ [];
+    }
+    ∷ record {
+      computed = tabletRefusal 2 2 0 0 0 0 0 192 197 32 ∷ tabletRefusal 2 0 2 0 0 0 0 192 197 32 ∷ tabletRefusal 2 0 0 2 0 0 0 192 197 32
+          ∷ tabletRefusal 2 0 0 0 2 0 0 192 197 32 ∷ tabletRefusal 2 0 0 0 0 2 0 192 197 32 ∷ tabletRefusal 2 0 0 0 0 0 2 192 197 32 ∷ [];
+      expected = 10 ∷ 10 ∷ 10 ∷ 10 ∷ 10 ∷ 10 ∷ [];
+    }
+    -- a row server: modulus and number of ballots; each of four lengths; numbers and offsets; a place twice, and one that is not there
+    ∷ record {
+      computed = rowRefusal 9 2 (8 ∷ 8 ∷ []) (8 ∷ 8 ∷ []) (1 ∷ 0 ∷ []) 2 ∷ rowRefusal 1 2 [] [] [] 0 ∷ rowRefusal 9 0 [] [] [] 0 ∷ rowRefusal 9 1025 [] [] [] 0 ∷ [];
+      expected = 0 ∷ 3 ∷ 3 ∷ 3 ∷ [];
+    }
+    ∷ record {
+      computed = rowRefusal 9 2 (9 ∷ []) (8 ∷ 8 ∷ []) (1 ∷ 0 ∷ []) 2 ∷ rowRefusal 9 2 (8 ∷ 8 ∷ []) (9 ∷ []) (1 ∷ 0 ∷ []) 2
+          ∷ rowRefusal 9 2 (8 ∷ 8 ∷ []) (8 ∷ 8 ∷ []) (0 ∷ []) 2 ∷ rowRefusal 9 2 (8 ∷ 8 ∷ []) (8 ∷ 8 ∷ []) (1 ∷ 0 ∷ []) 1 ∷ [];
+      expected = 18 ∷ 18 ∷ 18 ∷ 18 ∷ [];
+    }
+    ∷ record {
+      computed = rowRefusal 9 2 (8 ∷ 9 ∷ []) (8 ∷ 8 ∷ []) (1 ∷ 1 ∷ []) 2 ∷ rowRefusal 9 2 (8 ∷ 8 ∷ []) (8 ∷ 9 ∷ []) (1 ∷ 1 ∷ []) 2
+          ∷ rowRefusal 9 2 (8 ∷ 8 ∷ []) (8 ∷ 8 ∷ []) (1 ∷ 1 ∷ []) 2 ∷ rowRefusal 9 2 (8 ∷ 8 ∷ []) (8 ∷ 8 ∷ []) (0 ∷ 2 ∷ []) 2 ∷ [];
+      expected = 10 ∷ 10 ∷ 19 ∷ 19 ∷ [];
+    }
+    -- row three's offsets and the split: the same without a permutation
+    ∷ record {
+      computed = pairRefusal 9 2 (8 ∷ 8 ∷ []) (8 ∷ 8 ∷ []) 2 ∷ pairRefusal 1 2 [] [] 0 ∷ pairRefusal 9 1025 [] [] 0 ∷ [];
+      expected = 0 ∷ 3 ∷ 3 ∷ [];
+    }
+    ∷ record {
+      computed = pairRefusal 9 2 (9 ∷ []) (8 ∷ 8 ∷ []) 2 ∷ pairRefusal 9 2 (8 ∷ 8 ∷ []) (9 ∷ []) 2 ∷ pairRefusal 9 2 (8 ∷ 8 ∷ []) (8 ∷ 8 ∷ []) 1
+          ∷ pairRefusal 9 2 (9 ∷ 8 ∷ []) (8 ∷ 8 ∷ []) 2 ∷ pairRefusal 9 2 (8 ∷ 8 ∷ []) (8 ∷ 9 ∷ []) 2 ∷ [];
+      expected = 18 ∷ 18 ∷ 18 ∷ 10 ∷ 10 ∷ [];
+    }
+    -- the receipt check: a receipt of another length; then as the judge, here an empty record
+    ∷ record { computed = receiptRefusal [] [] ∷ receiptRefusal [] (replicate 32 0) ∷ []; expected = 18 ∷ 1 ∷ [] }
+    -- the tally: each output's length, then votes that fall
+    ∷ record {
+      computed = tallyRefusal (2 ∷ 5 ∷ 5 ∷ []) 3 3 ∷ tallyRefusal (5 ∷ 2 ∷ []) 1 2 ∷ tallyRefusal (2 ∷ 5 ∷ []) 2 1 ∷ tallyRefusal (5 ∷ 2 ∷ []) 2 2 ∷ [];
+      expected = 0 ∷ 18 ∷ 18 ∷ 15 ∷ [];
+    }
+    -- a part: none; lengths; ids; dice; mask; a vote; sides; a permutation
+    ∷ record {
+      computed = (let s = slices (1 ∷ 2 ∷ []) (99 ∷ 0 ∷ []) (1 ∷ 0 ∷ []) in
+          refusal s true true true true ∷ refusal s false true true true ∷ refusal s true false true true ∷ refusal s true true false true ∷ refusal s true true true false ∷ []);
+      expected = 0 ∷ 18 ∷ 6 ∷ 7 ∷ 11 ∷ [];
+    }
+    ∷ record {
+      computed = refusal (slices (2 ∷ 2 ∷ []) (99 ∷ 0 ∷ []) (1 ∷ 0 ∷ [])) true true true true ∷ refusal (slices (1 ∷ 2 ∷ []) (0 ∷ 100 ∷ []) (1 ∷ 0 ∷ [])) true true true true
+          ∷ refusal (slices (1 ∷ 2 ∷ []) (99 ∷ 0 ∷ []) (1 ∷ 1 ∷ [])) true true true true ∷ [];
+      expected = 5 ∷ 10 ∷ 19 ∷ [];
+    }
+    -- the draw of a mask: parameters, lengths, dice
+    ∷ record {
+      computed = drawRefusal (parameters 2 1 1) (replicate 30 54) 597 ∷ drawRefusal (parameters 1 1 1) [] 0 ∷ drawRefusal (parameters 2 1 1) (replicate 29 55) 597
+          ∷ drawRefusal (parameters 2 1 1) (replicate 30 55) 596 ∷ drawRefusal (parameters 2 1 1) (replicate 30 55) 597 ∷ [];
+      expected = 0 ∷ 3 ∷ 18 ∷ 18 ∷ 6 ∷ [];
+    }
     ∷ []
 
 pub samples : List Row
-samples = starred ++ own
+samples = starred ++ (own ++ (placed ++ refusals))
 
 pub samples-hold : map (λ (r : Row). r .computed) samples ≡ map (λ (r : Row). r .expected) samples
-unfolding samples starred own sized six through ones equal differ below atMost _and_ _or_ every choose rule number bytes tabulate plus minus permutes inLimits modulusInLimits ballotsInLimits listsInLimits opening digits decimal share slot ballotCommand row thirdOffset source rowServer thirdOffsets secondHalves atFirstDice atSecondDice atBallotHalf atVote atEnd firstCommand entryCommand firstDiceCommand linkCommand ballotHalfCommand listHalfCommand voteCommand hexDigit hexDigits drawFrom rightShape agrees fresh distinctVotes voteCounts tallyLine tallyLines pageOf
+unfolding samples starred own indices lent keysWith placed slices refusals six through ones equal differ below atMost _and_ _or_ every choose rule number bytes tabulate plus minus permutes inLimits modulusInLimits ballotsInLimits listsInLimits opening digits decimal share slot ballotCommand row thirdOffset source rowServer thirdOffsets secondHalves atFirstDice atSecondDice atBallotHalf atVote atEnd firstCommand entryCommand firstDiceCommand linkCommand ballotHalfCommand listHalfCommand voteCommand hexDigit hexDigits drawFrom rightShape agrees fresh distinctVotes voteCounts tallyLine tallyLines pageOf secondDiceCommand fullCommand receipt ballotNumbers listNumbers listPermutations ballotKeys entryKeys inputsOf tabletRefusal rowRefusal pairRefusal allBelow isPermutation receiptRefusal numberOf _then_ first located found ballotFaults fault parametersOf tallyRefusal refusal dueLengths idsRise allPermutations drawRefusal fairDice fairDie
 samples-hold = refl
