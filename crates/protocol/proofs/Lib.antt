@@ -13,6 +13,7 @@ pub mod Unrefused
 pub mod Joining
 pub mod Drawing
 pub mod Whole
+pub mod Digits
 pub mod Widths
 pub mod Operands
 pub mod Locating
