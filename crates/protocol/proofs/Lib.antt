@@ -29,6 +29,7 @@ pub mod Within
 pub mod Accepting
 pub mod Announced
 pub mod Tallies
+pub mod Pages
 pub mod Reencoding
 pub mod Completeness
 pub mod Demands
