@@ -1,4 +1,5 @@
--- Hexadecimal and decimal digits are read back: two hexadecimal digits give the byte, decimal digits the number; which characters they are, and how many.
+-- Hexadecimal and decimal digits are read back: two hexadecimal digits give the byte, decimal digits the number; which characters they are, how many,
+-- and where they are hashed for a draw.
 use mathlib.Core.Path.{_≡_, refl, sym, ap, _∙_}
 use mathlib.Core.Logic.{_⊎_, inl, inr}
 use mathlib.Core.Bool.{true, false}
@@ -11,11 +12,13 @@ use lib.Arith.{lt-one}
 use lib.ListN.{length, length-append, List·getD-append}
 use lib.Seq.{getD-at}
 use Rattle.laws.specs.Tests.{below, pick, is-below, not-below}
-use Rattle.laws.specs.Bytes.{Below}
+use Rattle.laws.specs.Bytes.{Below, number}
+use Rattle.laws.specs.Chunks.{piece}
+use Rattle.laws.specs.At.{number-piece}
 use Rattle.sha3.specs.Sha3.{byteAt, squeeze, digest, sha3-224}
 use Rattle.sha3.proofs.Digest.{sha3-224-length}
 use Rattle.protocol.specs.Terms.{item, digits, decimal}
-use Rattle.protocol.specs.Drawing.{hexDigit, hexDigits, challenge}
+use Rattle.protocol.specs.Drawing.{hexDigit, hexDigits, challenge, drawHash, listHash, drawnSide}
 
 -- what holds of each element, and of one behind them
 each-snoc : (P : ℕ → Type 0) (l : List ℕ) (c : ℕ) → ((i : ℕ) → i < length l → P (item l i)) → P c → (i : ℕ) → i < length (l ++ (c ∷ [])) → P (item (l ++ (c ∷ [])) i)
@@ -193,3 +196,19 @@ decimal-leads x h l = digits-lead 10 x h l .1
 pub decimal-zero : decimal 0 ≡ 48 ∷ []
 unfolding decimal digits below
 decimal-zero = refl
+
+-- ---- what is hashed for a draw
+
+-- "SHA3-224(i in decimal, first Q, "2")", its first 8 bytes
+pub list-hash-is : (q : List ℕ) (i : ℕ) → listHash q i ≡ number (piece (sha3-224 (decimal i ++ (q ++ decimal 2))) 0 8) 0 8
+unfolding listHash drawHash decimal digits below
+list-hash-is q i = sym (number-piece (sha3-224 (decimal i ++ (q ++ decimal 2))) 0 8 0 8 (omega arith))
+
+-- "the lowest bit of the last byte of SHA3-224(j + 1 in decimal, second Q, "1")"
+pub drawn-side-is : (q : List ℕ) (j : ℕ)
+    → let h : List ℕ = sha3-224 (decimal (j + 1) ++ (q ++ decimal 1)) in drawnSide q j ≡ item h (length h - 1) % 2
+unfolding drawnSide drawHash decimal digits below
+drawn-side-is q j =
+    let h : List ℕ = sha3-224 (decimal (j + 1) ++ (q ++ decimal 1)) in
+    let e : length h - 1 ≡ 27 = omega (arith, sha3-224-length (decimal (j + 1) ++ (q ++ decimal 1))) in
+    rw e

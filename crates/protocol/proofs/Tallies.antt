@@ -7,8 +7,8 @@ use Prim.Native.Nat.{ℕ, zero, suc, _+_, _-_, _≤_, _<_}
 use native.Mathlib.Nat.{not-suc-le-zero, le-refl, eq-or-lt-of-le, le-of-suc-le-suc}
 use native.Mathlib.Decide.{ℕ-discrete}
 use native.Mathlib.Omega.{arith}
-use lib.ListN.{length, length-append, List·getD-append}
-use lib.Seq.{getD-at}
+use lib.ListN.{length, drop, length-drop, length-append, List·getD-append}
+use lib.Seq.{getD-at, getD-append-add, getD-drop}
 use Rattle.laws.specs.Tests.{equal, differ, atMost, _and_, _or_, every, is-equal, not-equal, is-differ, not-differ, is-atMost, or-iff, or-stop, or-fails, every-iff, unequal-iff}
 use Rattle.laws.specs.Faults.{rule, rules}
 use Rattle.laws.specs.Chunks.{chunks}
@@ -17,7 +17,7 @@ use Rattle.laws.specs.Sorting.{is, is-cases, is-self, count, count-append, time
 use Rattle.protocol.specs.Answers.{done, answerOf, accepted}
 use Rattle.protocol.specs.Terms.{item}
 use Rattle.protocol.specs.Judging.{judged}
-use Rattle.protocol.specs.Results.{announcedVotes, fresh, distinctVotes, voteCounts, tallyRefusal, tallied}
+use Rattle.protocol.specs.Results.{announcedVotes, fresh, distinctVotes, voteCounts, tallyRefusal, tallied, inFront}
 use Rattle.protocol.proofs.Accepting.{accepts-iff}
 use Rattle.protocol.proofs.Announced.{announced-rise}
 
@@ -292,3 +292,20 @@ pub announced-answer : (r : List ℕ) → judged false r ≡ accepted
     → tallied (announcedVotes r) (length (announcedVotes r)) (length (announcedVotes r)) ≡ done (length (distinctVotes (announcedVotes r)) ∷ [])
 unfolding tallied answerOf
 announced-answer r a = let z = announced-unrefused r a in rw z
+
+-- ---- the two outputs: the pairs in front, and behind them what was there
+
+module _ (written before : List ℕ) (h : length written ≤ length before) where
+  pub in-front-length : length (inFront written before) ≡ length before
+  unfolding inFront
+  in-front-length = omega (arith, length-append written (drop (length written) before), length-drop (length written) before)
+
+  pub in-front-written : (i : ℕ) → i < length written → item (inFront written before) i ≡ item written i
+  unfolding inFront
+  in-front-written i l = List·getD-append written (drop (length written) before) 0 i l
+
+  pub in-front-left : (i : ℕ) → length written ≤ i → item (inFront written before) i ≡ item before i
+  unfolding inFront
+  in-front-left i l =
+      let e : i ≡ length written + (i - length written) = omega arith in
+      rw e (getD-append-add written (drop (length written) before) (i - length written) 0 ∙ getD-drop (length written) before (i - length written) 0)
