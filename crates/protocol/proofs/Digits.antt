@@ -10,7 +10,7 @@ use native.Mathlib.Decide.{decLe}
 use native.Mathlib.Omega.{arith}
 use lib.Arith.{lt-one}
 use lib.ListN.{length, length-append, List·getD-append}
-use lib.Seq.{getD-at}
+use lib.Seq.{getD-at, getD-append-add}
 use Rattle.laws.specs.Tests.{below, pick, is-below, not-below}
 use Rattle.laws.specs.Bytes.{Below, number}
 use Rattle.laws.specs.Chunks.{piece}
@@ -109,6 +109,14 @@ pub length-challenge : (dice prefix : List ℕ) → length (challenge dice prefi
 unfolding challenge
 length-challenge dice prefix =
     omega (arith, length-append dice (hexDigits (sha3-224 prefix)), length-hex (sha3-224 prefix), sha3-224-length prefix)
+
+pub challenge-dice : (dice prefix : List ℕ) (i : ℕ) → i < length dice → item (challenge dice prefix) i ≡ item dice i
+unfolding challenge
+challenge-dice dice prefix i l = List·getD-append dice (hexDigits (sha3-224 prefix)) 0 i l
+
+pub challenge-digits : (dice prefix : List ℕ) (i : ℕ) → item (challenge dice prefix) (length dice + i) ≡ item (hexDigits (sha3-224 prefix)) i
+unfolding challenge
+challenge-digits dice prefix i = getD-append-add dice (hexDigits (sha3-224 prefix)) i 0
 
 pub challenge-hex : (prefix : List ℕ) (i : ℕ) → i < 56 → IsHex (item (hexDigits (sha3-224 prefix)) i)
 challenge-hex prefix i h = hex-digits (sha3-224 prefix) (sha3-224-below prefix) i (omega (arith, length-hex (sha3-224 prefix), sha3-224-length prefix))
