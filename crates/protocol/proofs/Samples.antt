@@ -139,9 +139,9 @@ placed =
     }
     -- "permutations, three per list": by list, column and place
     ∷ record { computed = s .permutation 0 0 1 ∷ s .permutation 0 1 0 ∷ s .permutation 1 0 0 ∷ s .permutation 1 2 1 ∷ []; expected = 1 ∷ 2 ∷ 6 ∷ 11 ∷ [] }
-    -- "keys, 192 bytes per ballot, then per list and position": slot 1 of ballot 1, slot 2 of list 1 and position 1
+    -- "keys, 192 bytes per ballot, then per list and position": slot 1 of ballot 1, slot 2 of list 1 and position 0
     ∷ record { computed = lent (keysWith 224) .ballotKey 1 1; expected = 1 ∷ 2 ∷ 3 ∷ [] }
-    ∷ record { computed = lent (keysWith 1024) .entryKey 1 1 2; expected = 1 ∷ 2 ∷ 3 ∷ [] }
+    ∷ record { computed = lent (keysWith 832) .entryKey 1 0 2; expected = 1 ∷ 2 ∷ 3 ∷ [] }
     ∷ record { computed = length (lent (replicate 1152 0) .ballotKey 1 5) ∷ length (lent (replicate 1152 0) .entryKey 1 1 5) ∷ []; expected = 32 ∷ 32 ∷ [] }
     ∷ []
 
