@@ -64,7 +64,7 @@ module _ (s : Inputs) (g : Good s) where
   fits-four : (x : ℕ) → x < s .parameters .modulus → x < 4294967296
   fits-four x h = let k : s .parameters .modulus ≤ 4294967295 = g .modulus-high in omega arith
 
-  opened-ballot : (j q : ℕ) → j < s .parameters .ballots → q < 6 → opened (ballotOpening s j q) ≡ ballotNumber s j q
+  pub opened-ballot : (j q : ℕ) → j < s .parameters .ballots → q < 6 → opened (ballotOpening s j q) ≡ ballotNumber s j q
   unfolding ballotOpening
   opened-ballot j q lj lq =
       opened-opening (s .ballotKey j q) (ballotNumber s j q) (g .ballot-keys j q lj lq) (fits-four (ballotNumber s j q) (ballot-below s g j q lj lq))

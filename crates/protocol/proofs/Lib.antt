@@ -32,6 +32,7 @@ pub mod Tallies
 pub mod Pages
 pub mod Reencoding
 pub mod Completeness
+pub mod Committing
 pub mod Demands
 pub mod Chains
 pub mod Named

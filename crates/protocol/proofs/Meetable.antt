@@ -25,13 +25,14 @@ use Rattle.protocol.specs.Inputs.{Slices, inputsOf, listPermutations, du
 use Rattle.protocol.specs.Servers.{postedBoard, postedComparison, postedDisclosure, firstPart, maskFor}
 use Rattle.protocol.specs.Results.{announcedVotes}
 use Rattle.protocol.specs.Election.{drawn, maskBy, secondRefusal, thirdRefusal, electionMask, electionRecord}
-use Rattle.protocol.specs.Demand3.{Triple}
+use Rattle.protocol.specs.Demand3.{Triple, Announces}
 use Rattle.protocol.proofs.Fitting.{Fits}
 use Rattle.protocol.proofs.Goodness.{Good}
 use Rattle.protocol.proofs.Unrefused.{unrefused, good-inputs, shape-iff, binary-iff}
 use Rattle.protocol.proofs.Drawing.{drawn-mask}
 use Rattle.protocol.proofs.Reading.{read-parameters, read-mask, read-side}
 use Rattle.protocol.proofs.Standing.{read-before-first-dice, read-before-second-dice}
+use Rattle.protocol.proofs.Committing.{written-announced}
 use Rattle.protocol.proofs.Completeness.{Taken, written, board, comparison, disclosure, is-encoding, fits, written-accepted, Unrefusing, complete, complete-drawn}
 
 -- ---- three records of one board, two comparisons and opposite sides
@@ -142,6 +143,13 @@ module _ (s : Slices) (outLong : ℕ) (ids : Below 4294967296 (s .ids)) (h : par
       opposite : _≡_ {A = ℕ} 0 1 → ⊥
       opposite e = omega arith
 
+  -- the third announces what the ballots commit
+  pub triple-announces : Announces (sample (lowMask (s .parameters .compared)) 0) (sample (lowMask (s .parameters .compared)) 1) (sample (highMask (s .parameters .compared)) 0)
+  unfolding ones30 same-sides
+  triple-announces =
+      written-announced s good ones30 ones30 ones30 (lowMask (s .parameters .compared)) (same-sides 0) (same-sides 1) (low 0 (omega arith)) (low 1 (omega arith))
+      ones30 ones30 (highMask (s .parameters .compared)) (same-sides 0) (high 0 (omega arith))
+
 -- the smallest election: one ballot, two lists, M = 2, every number 1
 pub tiny : Slices
 tiny =
@@ -177,6 +185,10 @@ tiny-part-one = refl
 pub tiny-triple : Triple (written tiny allOnes 1 allOnes (0 ∷ [])) (written tiny allOnes 1 allOnes (1 ∷ [])) (written tiny allOnes 2 allOnes (0 ∷ []))
 unfolding tiny
 tiny-triple = triple tiny 597 tiny-ids tiny-part-one
+
+pub tiny-announces : Announces (written tiny allOnes 1 allOnes (0 ∷ [])) (written tiny allOnes 1 allOnes (1 ∷ [])) (written tiny allOnes 2 allOnes (0 ∷ []))
+unfolding tiny
+tiny-announces = triple-announces tiny 597 tiny-ids tiny-part-one
 
 -- ---- and what completeness supposes holds of it: mask and sides drawn
 
