@@ -16,15 +16,15 @@ use Rattle.laws.specs.Faults.{rule}
 use Rattle.protocol.specs.Answers.{accepted}
 use Rattle.protocol.specs.Terms.{parameters, inLimits, modulusInLimits, ballotsInLimits, listsInLimits, allBelow}
 use Rattle.protocol.specs.Columns.{isPermutation}
-use Rattle.protocol.specs.Layout.{atFirstDice, partThreeLength}
+use Rattle.protocol.specs.Layout.{atFirstDice, atSecondDice, atBallotHalf, atVote, atEnd, partThreeLength}
 use Rattle.protocol.specs.Record.{Board, Comparison, Disclosure, encoding}
 use Rattle.protocol.specs.Drawing.{challenge}
 use Rattle.protocol.specs.Rules.{fairDie, fairDice, rightShape}
 use Rattle.protocol.specs.Judging.{judged}
-use Rattle.protocol.specs.Inputs.{Slices, inputsOf, listPermutations, dueLengths, idsRise, allPermutations, refusal, partOneRefusal, partTwoDrawnRefusal, partThreeDrawnRefusal}
+use Rattle.protocol.specs.Inputs.{Slices, inputsOf, listPermutations, dueLengths, idsRise, allPermutations, refusal, binarySides, partOneRefusal, partTwoDrawnRefusal, partThreeDrawnRefusal}
 use Rattle.protocol.specs.Servers.{postedBoard, postedComparison, postedDisclosure, firstPart, maskFor}
 use Rattle.protocol.specs.Results.{announcedVotes}
-use Rattle.protocol.specs.Election.{drawn, maskBy, secondRefusal, thirdRefusal, electionMask, electionRecord}
+use Rattle.protocol.specs.Election.{chosen, drawn, maskBy, secondRefusal, thirdRefusal, maskInShape, sidesDue, sidesBinary, electionRefusal, electionMask, electionRecord}
 use Rattle.protocol.specs.Demand3.{Triple, Announces}
 use Rattle.protocol.proofs.Fitting.{Fits}
 use Rattle.protocol.proofs.Goodness.{Good}
@@ -217,3 +217,8 @@ tiny-accepted = complete-drawn tiny allOnes allOnes tiny-ids tiny-unrefusing
 pub tiny-announced : announcedVotes (electionRecord tiny drawn allOnes drawn allOnes) ≡ 1 ∷ []
 unfolding tiny
 tiny-announced = complete tiny drawn allOnes drawn allOnes tiny-ids tiny-unrefusing .1
+
+-- the three calls as one, mask and sides given: the record has 1,125 bytes
+pub tiny-election : electionRefusal tiny (chosen 1) allOnes (chosen (0 ∷ [])) allOnes 597 45 483 1125 ≡ 0
+unfolding tiny electionRefusal maskInShape sidesDue sidesBinary binarySides rightShape ones atFirstDice atSecondDice atBallotHalf atVote atEnd partThreeLength fairDice fairDie refusal inLimits modulusInLimits ballotsInLimits listsInLimits dueLengths idsRise allBelow allPermutations isPermutation inputsOf listPermutations rule equal differ below atMost _and_ _or_ every
+tiny-election = refl
