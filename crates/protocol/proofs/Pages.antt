@@ -18,14 +18,10 @@ use Rattle.protocol.specs.Servers.{postedBoard, firstPart, maskFor}
 use Rattle.protocol.specs.Results.{announcedVotes, announcedRefusal, acceptedWord, refusedWord, tooLongWord, tallyLines, pageOf, page, drawRefusal, drawn}
 use Rattle.protocol.proofs.Honesty.{length-commitment}
 use Rattle.protocol.proofs.Unrefused.{unrefused}
+use Rattle.protocol.proofs.Receipts.{number-done}
 use Rattle.protocol.proofs.Locating.{length-part-one}
 
 -- ---- the number that an answer has
-
-number-done : (k : ℕ) (v w : List ℕ) → answerOf k v ≡ done w → k ≡ 0
-unfolding answerOf
-number-done zero v w e = refl
-number-done (suc k) v w e = cc
 
 number-refused : (k n : ℕ) (v : List ℕ) → answerOf k v ≡ refused n → k ≡ n
 unfolding answerOf

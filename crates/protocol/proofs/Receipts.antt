@@ -52,10 +52,10 @@ unfolding first-value
 one-value p q = ap first-value (sym p ∙ q)
 
 -- where there are values no rule is broken
-taken : (k : ℕ) (v w : List ℕ) → answerOf k v ≡ done w → k ≡ 0
+pub number-done : (k : ℕ) (v w : List ℕ) → answerOf k v ≡ done w → k ≡ 0
 unfolding answerOf
-taken zero v w e = refl
-taken (suc k) v w e = cc
+number-done zero v w e = refl
+number-done (suc k) v w e = cc
 
 -- ---- the search among the ballots
 
@@ -197,7 +197,7 @@ module _ (r printed : List ℕ) where
   -- a refusal is none of the three answers
   checkable : (values : List ℕ) → receiptChecked r printed ≡ done values → Checkable r printed
   unfolding receiptChecked
-  checkable values e = checkable-iff .0 (taken (receiptRefusal r printed) _ values e)
+  checkable values e = checkable-iff .0 (number-done (receiptRefusal r printed) _ values e)
 
   -- posted as printed: a ballot has the printed id, and its posted command the printed hash
   pub as-printed-iff : (receiptChecked r printed ≡ done asPrinted) ↔ (Checkable r printed × SameHash)
