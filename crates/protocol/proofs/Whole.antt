@@ -48,7 +48,7 @@ module _ (s : Slices) where
   -- tests that an election makes of the second call, and of the third
   abbrev Second : Choice ℕ → List ℕ → ℕ → Type 0
   Second byMask dice twoLong =
-      (length dice ≡ 30) × ((twoLong ≡ partTwoLength (s .parameters)) × ((fairDice dice ≡ true) × (maskInShape s byMask ≡ true)))
+      (length dice ≡ 30) × ((twoLong ≡ partTwoLength (s .parameters)) × ((fairDice dice ≡ true) × (maskInShape (s .parameters) byMask ≡ true)))
 
   second-iff : (byMask : Choice ℕ) (dice : List ℕ) (oneLong twoLong : ℕ) → oneLong ≡ partOneLength (s .parameters)
       → (secondRefusal s byMask dice oneLong twoLong ≡ 0) ↔ ((refusal s true true true true ≡ 0) × Second byMask dice twoLong)
@@ -64,7 +64,7 @@ module _ (s : Slices) where
 
   abbrev Third : Choice (List ℕ) → List ℕ → ℕ → Type 0
   Third bySides dice threeLong =
-      (length dice ≡ 30) × ((sidesDue s bySides ≡ true) × ((threeLong ≡ partThreeLength (s .parameters)) × ((fairDice dice ≡ true) × (sidesBinary s bySides ≡ true))))
+      (length dice ≡ 30) × ((sidesDue (s .parameters) bySides ≡ true) × ((threeLong ≡ partThreeLength (s .parameters)) × ((fairDice dice ≡ true) × (sidesBinary s bySides ≡ true))))
 
   third-iff : (bySides : Choice (List ℕ)) (dice : List ℕ) (mask oneLong twoLong threeLong : ℕ) → oneLong ≡ partOneLength (s .parameters)
       → twoLong ≡ partTwoLength (s .parameters) → rightShape (s .parameters .compared) mask ≡ true
@@ -86,7 +86,7 @@ module _ (s : Slices) where
   )
 
   -- the mask, given or drawn, has its shape
-  pub mask-shape : (byMask : Choice ℕ) (dice : List ℕ) → maskInShape s byMask ≡ true → rightShape (s .parameters .compared) (electionMask s byMask dice) ≡ true
+  pub mask-shape : (byMask : Choice ℕ) (dice : List ℕ) → maskInShape (s .parameters) byMask ≡ true → rightShape (s .parameters .compared) (electionMask s byMask dice) ≡ true
   unfolding maskInShape electionMask maskBy maskFor
   mask-shape (chosen mask) dice shape = shape
   mask-shape drawn dice shape = drawn-mask (s .parameters .compared) (challenge dice (firstPart s))

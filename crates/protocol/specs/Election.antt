@@ -5,6 +5,7 @@ use mathlib.Core.List.{List, _++_}
 use Prim.Native.Nat.{ℕ}
 use lib.ListN.{length}
 use Rattle.laws.specs.Tests.{equal, _and_}
+use Rattle.protocol.specs.declared.Parameters.{Parameters}
 use Rattle.protocol.specs.Layout.{recordLength, partOneLength, partTwoLength, partThreeLength}
 use Rattle.protocol.specs.Rules.{fairDice, rightShape}
 use Rattle.protocol.specs.Inputs.{Slices, refusal, binarySides, partTwoRefusal, partTwoDrawnRefusal, partThreeRefusal, partThreeDrawnRefusal}
@@ -19,6 +20,15 @@ pub data Choice (A : Type 0) : Type 0 where
 unfoldable pub choiceOf : {A : Type 0} → Bool → A → Choice A
 choiceOf true x = chosen x
 choiceOf false x = drawn
+
+-- tests of a mask and of sides that are given; what is drawn needs none
+unfoldable pub maskInShape : Parameters → Choice ℕ → Bool
+maskInShape p (chosen mask) = rightShape (p .compared) mask
+maskInShape p drawn = true
+
+unfoldable pub sidesDue : Parameters → Choice (List ℕ) → Bool
+sidesDue p (chosen sides) = equal (length sides) (p .ballots)
+sidesDue p drawn = true
 
 module _ (s : Slices) where
   unfoldable pub maskBy : Choice ℕ → List ℕ → List ℕ → ℕ
@@ -59,15 +69,6 @@ module _ (s : Slices) where
 
   -- ---- what an election refuses
 
-  -- the tests of a mask and of sides that are given; what is drawn needs none
-  unfoldable pub maskInShape : Choice ℕ → Bool
-  maskInShape (chosen mask) = rightShape (s .parameters .compared) mask
-  maskInShape drawn = true
-
-  unfoldable pub sidesDue : Choice (List ℕ) → Bool
-  sidesDue (chosen sides) = equal (length sides) (s .parameters .ballots)
-  sidesDue drawn = true
-
   unfoldable pub sidesBinary : Choice (List ℕ) → Bool
   sidesBinary (chosen sides) = binarySides s sides
   sidesBinary drawn = true
@@ -76,9 +77,10 @@ module _ (s : Slices) where
   -- buffers' lengths
   unfoldable pub electionRefusal : Choice ℕ → List ℕ → Choice (List ℕ) → List ℕ → ℕ → ℕ → ℕ → ℕ → ℕ
   electionRefusal byMask dice₁ bySides dice₂ oneLong twoLong threeLong joinedLong =
+      let p = s .parameters in
       refusal s
-      (equal (length dice₁) 30 and equal (length dice₂) 30 and sidesDue bySides and equal oneLong (partOneLength (s .parameters))
-      and equal twoLong (partTwoLength (s .parameters))
-      and equal threeLong (partThreeLength (s .parameters))
-      and equal joinedLong (recordLength (s .parameters)))
-      (fairDice dice₁ and fairDice dice₂) (maskInShape byMask) (sidesBinary bySides)
+      (equal (length dice₁) 30 and equal (length dice₂) 30 and sidesDue p bySides and equal oneLong (partOneLength p)
+      and equal twoLong (partTwoLength p)
+      and equal threeLong (partThreeLength p)
+      and equal joinedLong (recordLength p))
+      (fairDice dice₁ and fairDice dice₂) (maskInShape p byMask) (sidesBinary bySides)
