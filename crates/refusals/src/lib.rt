@@ -1,150 +1,207 @@
 // What each of the writers refuses: the number of the first rule that its inputs, or the lengths of what it is lent, break; 0 where none
-// is broken. 3 and 18 come before all else.
-ghost use mathlib.Core.Bool.{true};
+// is broken. Limits are tested first, 3, then lengths, 18, then the rest in rising number.
 ghost use mathlib.Core.Path.{_≡_};
-ghost use Prim.Native.Nat.{ℕ, _≤_};
+ghost use Prim.Native.Nat.{_*_};
 ghost use lib.ListN.{length};
 ghost use Rattle.laws.specs.Lent.{before};
-ghost use Rattle.laws.specs.Tests.{equal, atMost, _and_};
-ghost use Rattle.laws.specs.Faults.{rule, kept};
-ghost use Rattle.protocol.specs.Terms.{parameters, mostBallots, inLimits};
-ghost use Rattle.protocol.specs.Layout.{partOneLength, partTwoLength, partThreeLength};
-ghost use Rattle.protocol.specs.Rules.{fairDice, rightShape};
-ghost use Rattle.protocol.specs.Inputs.{given, refusal, binarySides, partOneRefusal, partTwoRefusal, partTwoDrawnRefusal, partThreeRefusal, partThreeDrawnRefusal};
+ghost use Rattle.laws.specs.Tests.{_and_};
+ghost use Rattle.laws.specs.Faults.{rule};
+ghost use Rattle.protocol.specs.Layout.{partTwoLength, partThreeLength};
+ghost use Rattle.protocol.specs.Inputs.{given, dueLengths, partOneRefusal, partTwoRefusal, partTwoDrawnRefusal};
+ghost use Rattle.protocol.specs.Inputs.{partThreeRefusal, partThreeDrawnRefusal};
 ghost use Rattle.protocol.specs.Results.{drawRefusal};
+ghost use Rattle.protocol.specs.Election.{choiceOf, maskInShape, sidesDue, electionRefusal};
+ghost use Rattle.layout.specs.Bounds.{Few};
+ghost use Rattle.refusals.specs.Contents.{rising, binary, binaryWhere, permutationsIn, contentsRefusal};
 use protocol::Parameters;
 
-// The limits, then lengths.
-fn refuse_lengths(modulus: u32, ballots: u32, compared: u32, lengths: bool) -> u32
-    ensures { λ r. ⌜ r ≡ rule 3 (inLimits (parameters modulus ballots compared)) (rule 18 lengths kept) ⌝ }
+// ---- tests of one slice
+
+// Whether each id is above the one before.
+fn ids_rise(ids: &[u32]) -> bool
+    ensures { λ r. ⌜ r ≡ rising (before ids) ⌝ }
 {
-    if !inputs::in_limits(modulus, ballots, compared) {
-        return 3;
+    let mut i: usize = 1;
+    while i < ids.len() {
+        if ids[i] <= ids[i - 1] {
+            return false;
+        }
+        i += 1;
     }
-    if !lengths {
-        return 18;
-    }
-    0
+    true
 }
 
-// The limits, the lengths, then the contents. The lengths of what only one part is lent, its dice, mask and sides were tested by the caller.
-fn refuse(
-    modulus: u32,
-    ballots: u32,
-    compared: u32,
+// Whether every side is 0 or 1.
+fn binary_sides(sides: &[u8]) -> bool
+    ensures { λ r. ⌜ r ≡ binary (before sides) ⌝ }
+{
+    let mut i: usize = 0;
+    while i < sides.len() {
+        if 1 < sides[i] {
+            return false;
+        }
+        i += 1;
+    }
+    true
+}
+
+// Whether all three permutations of every list are permutations.
+fn all_permutations(p: Parameters, permutations: &[u16]) -> bool
+    requires { ⌜ Few p × (length (now permutations) ≡ 6 * (p .compared * p .ballots)) ⌝ }
+    ensures { λ r. ⌜ r ≡ permutationsIn p (before permutations) ⌝ }
+{
+    let rows = 2 * protocol::ENTRY_PERMUTATIONS * p.compared;
+    let mut c: usize = 0;
+    while c < rows {
+        let from = c * p.ballots;
+        let to = from + p.ballots;
+        if !limits::is_permutation(p.ballots, &permutations[from..to]) {
+            return false;
+        }
+        c += 1;
+    }
+    true
+}
+
+// ---- tests of every part
+
+// Whether the slices have their due lengths.
+fn due_lengths(
+    p: Parameters,
     ids: &[u32],
     votes: &[u32],
     numbers: &[u32],
     permutations: &[u16],
     keys: &[u8],
-    lengths: bool,
+) -> bool
+    requires { ⌜ Few p ⌝ }
+    ensures { λ r.
+        let s = given p (before ids) (before votes) (before numbers) (before permutations) (before keys) in
+        ⌜ r ≡ dueLengths s ⌝ }
+{
+    let entries = 2 * (p.compared * p.ballots);
+    if ids.len() != p.ballots {
+        return false;
+    }
+    if votes.len() != p.ballots {
+        return false;
+    }
+    if numbers.len() != protocol::BALLOT_NUMBERS * p.ballots + protocol::ENTRY_NUMBERS * entries {
+        return false;
+    }
+    if permutations.len() != protocol::ENTRY_PERMUTATIONS * entries {
+        return false;
+    }
+    keys.len() == protocol::KEYS_WIDTH * (p.ballots + entries)
+}
+
+// Lengths and contents, within the limits. Dice, mask and sides are tested by the caller, who hands the answers over.
+fn refuse(
+    p: Parameters,
+    ids: &[u32],
+    votes: &[u32],
+    numbers: &[u32],
+    permutations: &[u16],
+    keys: &[u8],
     fair: bool,
     shape: bool,
     binary: bool,
 ) -> u32
-    ensures { λ r. ⌜ r ≡ refusal (given (parameters modulus ballots compared) (before ids) (before votes) (before numbers) (before permutations) (before keys)) lengths fair shape binary ⌝ }
+    requires { ⌜ Few p ⌝ }
+    ensures { λ r.
+        let s = given p (before ids) (before votes) (before numbers) (before permutations) (before keys) in
+        ⌜ r ≡ rule 18 (dueLengths s) (contentsRefusal s fair shape binary) ⌝ }
 {
-    let k = refuse_lengths(modulus, ballots, compared, lengths);
-    if k != 0 {
-        return k;
-    }
-    let n = ballots as usize;
-    let m = compared as usize;
-    if !inputs::due_lengths(n, m, ids, votes, numbers, permutations, keys) {
+    if !due_lengths(p, ids, votes, numbers, permutations, keys) {
         return 18;
     }
-    inputs::refuse_contents(
-        modulus,
-        n,
-        m,
-        ids,
-        votes,
-        numbers,
-        permutations,
-        fair,
-        shape,
-        binary,
-    )
+    if !ids_rise(ids) {
+        return 5;
+    }
+    if !fair {
+        return 6;
+    }
+    if !shape {
+        return 7;
+    }
+    if !limits::all_below(p.modulus, votes) {
+        return 10;
+    }
+    if !limits::all_below(p.modulus, numbers) {
+        return 10;
+    }
+    if !binary {
+        return 11;
+    }
+    if !all_permutations(p, permutations) {
+        return 19;
+    }
+    0
 }
+
+// ---- tests of what only some parts are lent
 
 // Whether both of two tests hold.
-fn both(first: bool, second: bool) -> bool
-    ensures { λ r. ⌜ r ≡ (first and second) ⌝ }
+fn both(one: bool, other: bool) -> bool
+    ensures { λ r. ⌜ r ≡ (one and other) ⌝ }
 {
-    if !first {
+    if !one {
         return false;
     }
-    second
+    other
 }
 
-// Whether n and m are not too high. Callers work all tests out before the first is looked at: where n or m is too high, or dice are not 30,
-// what the rest answers does not matter.
-fn few(ballots: u32, compared: u32) -> bool
-    ensures { λ r. ⌜ r ≡ (atMost ballots mostBallots and atMost compared 12) ⌝ }
+// The lengths of parts two and three; that of part one is where the first dice stand.
+fn part_two_length(p: Parameters) -> usize
+    requires { ⌜ Few p ⌝ }
+    ensures { λ r. ⌜ r ≡ partTwoLength p ⌝ }
 {
-    both(ballots <= protocol::MOST_BALLOTS, compared <= 12)
+    35 + 10 * (p.compared * p.ballots)
 }
 
-// The lengths of the three parts.
-fn part_one_length(modulus: u32, ballots: u32, compared: u32) -> usize
-    ensures { λ r. ⌜ ((ballots ≤ mostBallots) × (compared ≤ 12) → r ≡ partOneLength (record { modulus = modulus; ballots = ballots; compared = compared })) ⌝ }
+fn part_three_length(p: Parameters) -> usize
+    requires { ⌜ Few p ⌝ }
+    ensures { λ r. ⌜ r ≡ partThreeLength p ⌝ }
 {
-    if !few(ballots, compared) {
-        return 0;
+    32 + 119 * p.ballots + 332 * (p.compared * p.ballots)
+}
+
+// A mask, where it is given, has its shape.
+fn mask_in_shape(p: Parameters, mask_given: bool, mask: u32) -> bool
+    requires { ⌜ Few p ⌝ }
+    ensures { λ r. ⌜ r ≡ maskInShape p (choiceOf «mask_given» mask) ⌝ }
+{
+    if !mask_given {
+        return true;
     }
-    let p = Parameters {
-        modulus,
-        ballots: ballots as usize,
-        compared: compared as usize,
-    };
-    layout::at_first_dice(p)
+    limits::right_shape(p.compared, mask)
 }
 
-fn part_two_length(ballots: u32, compared: u32) -> usize
-    ensures { λ r. ⌜ ((ballots ≤ mostBallots) × (compared ≤ 12) → (modulus : ℕ) → r ≡ partTwoLength (record { modulus = modulus; ballots = ballots; compared = compared })) ⌝ }
+// Sides, where they are given, are one for each ballot ..
+fn sides_due(p: Parameters, sides_given: bool, sides: &[u8]) -> bool
+    ensures { λ r. ⌜ r ≡ sidesDue p (choiceOf «sides_given» (before sides)) ⌝ }
 {
-    if !few(ballots, compared) {
-        return 0;
+    if !sides_given {
+        return true;
     }
-    35 + 10 * (compared as usize * ballots as usize)
+    sides.len() == p.ballots
 }
 
-fn part_three_length(ballots: u32, compared: u32) -> usize
-    ensures { λ r. ⌜ ((ballots ≤ mostBallots) × (compared ≤ 12) → (modulus : ℕ) → r ≡ partThreeLength (record { modulus = modulus; ballots = ballots; compared = compared })) ⌝ }
+// .. and 0 or 1 each.
+fn sides_binary(sides_given: bool, sides: &[u8]) -> bool
+    ensures { λ r. ⌜ r ≡ binaryWhere (choiceOf «sides_given» (before sides)) ⌝ }
 {
-    if !few(ballots, compared) {
-        return 0;
+    if !sides_given {
+        return true;
     }
-    let n = ballots as usize;
-    let m = compared as usize;
-    32 + 119 * n + 332 * (m * n)
+    binary_sides(sides)
 }
 
-// Whether 30 dice are fair.
-fn fair_of(dice: &[u8]) -> bool
-    ensures { λ r. ⌜ (length (before dice) ≡ 30 → r ≡ fairDice (before dice)) ⌝ }
-{
-    if dice.len() != 30 {
-        return false;
-    }
-    rules::fair_dice(dice, 0)
-}
-
-// Whether a mask has its shape.
-fn shape_of(compared: u32, mask: u32) -> bool
-    ensures { λ r. ⌜ (compared ≤ 12 → r ≡ rightShape compared mask) ⌝ }
-{
-    if 12 < compared {
-        return false;
-    }
-    rules::right_shape(compared as usize, mask)
-}
+// ---- the parts
 
 // Part one.
 pub fn part_one(
-    modulus: u32,
-    ballots: u32,
-    compared: u32,
+    p: Parameters,
     ids: &[u32],
     votes: &[u32],
     numbers: &[u32],
@@ -152,29 +209,22 @@ pub fn part_one(
     keys: &[u8],
     out_len: usize,
 ) -> u32
-    ensures { λ r. ⌜ r ≡ partOneRefusal (given (parameters modulus ballots compared) (before ids) (before votes) (before numbers) (before permutations) (before keys)) «out_len» ⌝ }
+    ensures { λ r.
+        let s = given p (before ids) (before votes) (before numbers) (before permutations) (before keys) in
+        ⌜ r ≡ partOneRefusal s «out_len» ⌝ }
 {
-    refuse(
-        modulus,
-        ballots,
-        compared,
-        ids,
-        votes,
-        numbers,
-        permutations,
-        keys,
-        out_len == part_one_length(modulus, ballots, compared),
-        true,
-        true,
-        true,
-    )
+    if !limits::in_limits(p) {
+        return 3;
+    }
+    if out_len != layout::at_first_dice(p) {
+        return 18;
+    }
+    refuse(p, ids, votes, numbers, permutations, keys, true, true, true)
 }
 
 // Part two, mask given.
 pub fn part_two(
-    modulus: u32,
-    ballots: u32,
-    compared: u32,
+    p: Parameters,
     ids: &[u32],
     votes: &[u32],
     numbers: &[u32],
@@ -184,30 +234,34 @@ pub fn part_two(
     mask: u32,
     out_len: usize,
 ) -> u32
-    ensures { λ r. ⌜ r ≡ partTwoRefusal (given (parameters modulus ballots compared) (before ids) (before votes) (before numbers) (before permutations) (before keys)) (before dice) mask «out_len» ⌝ }
+    ensures { λ r.
+        let s = given p (before ids) (before votes) (before numbers) (before permutations) (before keys) in
+        ⌜ r ≡ partTwoRefusal s (before dice) mask «out_len» ⌝ }
 {
-    let two = out_len == part_two_length(ballots, compared);
+    if !limits::in_limits(p) {
+        return 3;
+    }
+    if !both(dice.len() == 30, out_len == part_two_length(p)) {
+        return 18;
+    }
+    let fair = limits::fair_dice(dice, 0);
+    let shape = limits::right_shape(p.compared, mask);
     refuse(
-        modulus,
-        ballots,
-        compared,
+        p,
         ids,
         votes,
         numbers,
         permutations,
         keys,
-        both(dice.len() == 30, two),
-        fair_of(dice),
-        shape_of(compared, mask),
+        fair,
+        shape,
         true,
     )
 }
 
 // Part two, mask drawn from the dice and part one as lent.
 pub fn part_two_drawn(
-    modulus: u32,
-    ballots: u32,
-    compared: u32,
+    p: Parameters,
     ids: &[u32],
     votes: &[u32],
     numbers: &[u32],
@@ -217,103 +271,27 @@ pub fn part_two_drawn(
     one_len: usize,
     out_len: usize,
 ) -> u32
-    ensures { λ r. ⌜ r ≡ partTwoDrawnRefusal (given (parameters modulus ballots compared) (before ids) (before votes) (before numbers) (before permutations) (before keys)) (before dice) «one_len» «out_len» ⌝ }
+    ensures { λ r.
+        let s = given p (before ids) (before votes) (before numbers) (before permutations) (before keys) in
+        ⌜ r ≡ partTwoDrawnRefusal s (before dice) «one_len» «out_len» ⌝ }
 {
-    let one = one_len == part_one_length(modulus, ballots, compared);
-    let two = out_len == part_two_length(ballots, compared);
-    refuse(
-        modulus,
-        ballots,
-        compared,
-        ids,
-        votes,
-        numbers,
-        permutations,
-        keys,
-        both(dice.len() == 30, both(one, two)),
-        fair_of(dice),
-        true,
-        true,
-    )
-}
-
-// Part three, sides given, where the mask was tested before.
-pub fn part_three_shaped(
-    modulus: u32,
-    ballots: u32,
-    compared: u32,
-    ids: &[u32],
-    votes: &[u32],
-    numbers: &[u32],
-    permutations: &[u16],
-    keys: &[u8],
-    dice: &[u8],
-    shape: bool,
-    sides: &[u8],
-    out_len: usize,
-) -> u32
-    ensures { λ r. ⌜ r ≡ refusal (given (parameters modulus ballots compared) (before ids) (before votes) (before numbers) (before permutations) (before keys)) (equal (length (before dice)) 30 and equal (length (before sides)) ballots and equal «out_len» (partThreeLength (parametersFor (given (parameters modulus ballots compared) (before ids) (before votes) (before numbers) (before permutations) (before keys))))) (fairDice (before dice)) shape (binarySides (given (parameters modulus ballots compared) (before ids) (before votes) (before numbers) (before permutations) (before keys)) (before sides)) ⌝ }
-{
-    let each = sides.len() == ballots as usize;
-    let three = out_len == part_three_length(ballots, compared);
-    refuse(
-        modulus,
-        ballots,
-        compared,
-        ids,
-        votes,
-        numbers,
-        permutations,
-        keys,
-        both(dice.len() == 30, both(each, three)),
-        fair_of(dice),
-        shape,
-        inputs::binary_sides(sides),
-    )
-}
-
-// Part three, sides drawn from the dice and parts one and two as lent, where the mask was tested before.
-pub fn part_three_drawn_shaped(
-    modulus: u32,
-    ballots: u32,
-    compared: u32,
-    ids: &[u32],
-    votes: &[u32],
-    numbers: &[u32],
-    permutations: &[u16],
-    keys: &[u8],
-    dice: &[u8],
-    shape: bool,
-    one_len: usize,
-    two_len: usize,
-    out_len: usize,
-) -> u32
-    ensures { λ r. ⌜ r ≡ refusal (given (parameters modulus ballots compared) (before ids) (before votes) (before numbers) (before permutations) (before keys)) (equal (length (before dice)) 30 and equal «one_len» (partOneLength (parametersFor (given (parameters modulus ballots compared) (before ids) (before votes) (before numbers) (before permutations) (before keys)))) and equal «two_len» (partTwoLength (parametersFor (given (parameters modulus ballots compared) (before ids) (before votes) (before numbers) (before permutations) (before keys)))) and equal «out_len» (partThreeLength (parametersFor (given (parameters modulus ballots compared) (before ids) (before votes) (before numbers) (before permutations) (before keys))))) (fairDice (before dice)) shape true ⌝ }
-{
-    let one = one_len == part_one_length(modulus, ballots, compared);
-    let two = two_len == part_two_length(ballots, compared);
-    let three = out_len == part_three_length(ballots, compared);
-    refuse(
-        modulus,
-        ballots,
-        compared,
-        ids,
-        votes,
-        numbers,
-        permutations,
-        keys,
-        both(dice.len() == 30, both(one, both(two, three))),
-        fair_of(dice),
-        shape,
-        true,
-    )
+    if !limits::in_limits(p) {
+        return 3;
+    }
+    let parts = both(
+        one_len == layout::at_first_dice(p),
+        out_len == part_two_length(p),
+    );
+    if !both(dice.len() == 30, parts) {
+        return 18;
+    }
+    let fair = limits::fair_dice(dice, 0);
+    refuse(p, ids, votes, numbers, permutations, keys, fair, true, true)
 }
 
 // Part three, sides given.
 pub fn part_three(
-    modulus: u32,
-    ballots: u32,
-    compared: u32,
+    p: Parameters,
     ids: &[u32],
     votes: &[u32],
     numbers: &[u32],
@@ -324,29 +302,36 @@ pub fn part_three(
     sides: &[u8],
     out_len: usize,
 ) -> u32
-    ensures { λ r. ⌜ r ≡ partThreeRefusal (given (parameters modulus ballots compared) (before ids) (before votes) (before numbers) (before permutations) (before keys)) (before dice) mask (before sides) «out_len» ⌝ }
+    ensures { λ r.
+        let s = given p (before ids) (before votes) (before numbers) (before permutations) (before keys) in
+        ⌜ r ≡ partThreeRefusal s (before dice) mask (before sides) «out_len» ⌝ }
 {
-    part_three_shaped(
-        modulus,
-        ballots,
-        compared,
+    if !limits::in_limits(p) {
+        return 3;
+    }
+    let parts = both(sides.len() == p.ballots, out_len == part_three_length(p));
+    if !both(dice.len() == 30, parts) {
+        return 18;
+    }
+    let fair = limits::fair_dice(dice, 0);
+    let shape = limits::right_shape(p.compared, mask);
+    let binary = binary_sides(sides);
+    refuse(
+        p,
         ids,
         votes,
         numbers,
         permutations,
         keys,
-        dice,
-        shape_of(compared, mask),
-        sides,
-        out_len,
+        fair,
+        shape,
+        binary,
     )
 }
 
-// Part three, sides drawn.
+// Part three, sides drawn from the dice and parts one and two as lent.
 pub fn part_three_drawn(
-    modulus: u32,
-    ballots: u32,
-    compared: u32,
+    p: Parameters,
     ids: &[u32],
     votes: &[u32],
     numbers: &[u32],
@@ -358,36 +343,112 @@ pub fn part_three_drawn(
     two_len: usize,
     out_len: usize,
 ) -> u32
-    ensures { λ r. ⌜ r ≡ partThreeDrawnRefusal (given (parameters modulus ballots compared) (before ids) (before votes) (before numbers) (before permutations) (before keys)) (before dice) mask «one_len» «two_len» «out_len» ⌝ }
+    ensures { λ r.
+        let s = given p (before ids) (before votes) (before numbers) (before permutations) (before keys) in
+        ⌜ r ≡ partThreeDrawnRefusal s (before dice) mask «one_len» «two_len» «out_len» ⌝ }
 {
-    part_three_drawn_shaped(
-        modulus,
-        ballots,
-        compared,
+    if !limits::in_limits(p) {
+        return 3;
+    }
+    let later = both(
+        two_len == part_two_length(p),
+        out_len == part_three_length(p),
+    );
+    let parts = both(one_len == layout::at_first_dice(p), later);
+    if !both(dice.len() == 30, parts) {
+        return 18;
+    }
+    let fair = limits::fair_dice(dice, 0);
+    let shape = limits::right_shape(p.compared, mask);
+    refuse(
+        p,
         ids,
         votes,
         numbers,
         permutations,
         keys,
-        dice,
-        shape_of(compared, mask),
-        one_len,
-        two_len,
-        out_len,
+        fair,
+        shape,
+        true,
     )
 }
 
 // The draw of a mask alone.
-pub fn draw(modulus: u32, ballots: u32, compared: u32, dice: &[u8], one_len: usize) -> u32
-    ensures { λ r. ⌜ r ≡ drawRefusal (record { modulus = modulus; ballots = ballots; compared = compared }) (before dice) «one_len» ⌝ }
+pub fn draw(p: Parameters, dice: &[u8], one_len: usize) -> u32
+    ensures { λ r. ⌜ r ≡ drawRefusal p (before dice) «one_len» ⌝ }
 {
-    let one = one_len == part_one_length(modulus, ballots, compared);
-    let k = refuse_lengths(modulus, ballots, compared, both(dice.len() == 30, one));
-    if k != 0 {
-        return k;
+    if !limits::in_limits(p) {
+        return 3;
     }
-    if !fair_of(dice) {
+    if !both(dice.len() == 30, one_len == layout::at_first_dice(p)) {
+        return 18;
+    }
+    if !limits::fair_dice(dice, 0) {
         return 6;
     }
     0
+}
+
+// All three parts and the record that they make. Mask and sides are each given or drawn: where a switch says drawn, what is lent in their
+// place is not looked at.
+pub fn election(
+    p: Parameters,
+    ids: &[u32],
+    votes: &[u32],
+    numbers: &[u32],
+    permutations: &[u16],
+    keys: &[u8],
+    mask_given: bool,
+    mask: u32,
+    first_dice: &[u8],
+    sides_given: bool,
+    sides: &[u8],
+    second_dice: &[u8],
+    one_len: usize,
+    two_len: usize,
+    three_len: usize,
+    joined_len: usize,
+) -> u32
+    ensures { λ r.
+        let s = given p (before ids) (before votes) (before numbers) (before permutations) (before keys) in
+        let byMask = choiceOf «mask_given» mask in
+        let bySides = choiceOf «sides_given» (before sides) in
+        let k = electionRefusal s byMask (before «first_dice») bySides (before «second_dice») in
+        ⌜ r ≡ k «one_len» «two_len» «three_len» «joined_len» ⌝ }
+{
+    if !limits::in_limits(p) {
+        return 3;
+    }
+    let last = both(
+        three_len == part_three_length(p),
+        joined_len == layout::at_end(p) + 1,
+    );
+    let parts = both(
+        one_len == layout::at_first_dice(p),
+        both(two_len == part_two_length(p), last),
+    );
+    let given = both(
+        second_dice.len() == 30,
+        both(sides_due(p, sides_given, sides), parts),
+    );
+    if !both(first_dice.len() == 30, given) {
+        return 18;
+    }
+    let fair = both(
+        limits::fair_dice(first_dice, 0),
+        limits::fair_dice(second_dice, 0),
+    );
+    let shape = mask_in_shape(p, mask_given, mask);
+    let binary = sides_binary(sides_given, sides);
+    refuse(
+        p,
+        ids,
+        votes,
+        numbers,
+        permutations,
+        keys,
+        fair,
+        shape,
+        binary,
+    )
 }

@@ -1,15 +1,62 @@
--- `refusals::part_three_drawn` meets its contract: the mask's shape matters only within the limits.
-use mathlib.Core.Path.{refl, _∙_}
+-- `refusals::part_three_drawn` meets its contract: limits, lengths, then the rest.
+use mathlib.Core.Path.{_≡_, refl, _∙_}
+use mathlib.Core.Bool.{true}
+use native.Mathlib.Omega.{arith}
+use lib.ListN.{length}
 use borrow.Author.Needs.{needs}
+use Rattle.laws.specs.Tests.{equal, _and_, equal-is, held, failed}
+use Rattle.protocol.specs.Terms.{inLimits}
+use Rattle.protocol.specs.Layout.{partOneLength, partTwoLength, partThreeLength}
 use Rattle.protocol.specs.Inputs.{partThreeDrawnRefusal}
-use Rattle.refusals.proofs.Tests.{alike}
+use Rattle.layout.specs.Bounds.{Few}
+use Rattle.refusals.proofs.Tests.{limits-few, long, pair, thirty, outside, undue, due, fair-whole}
 use Rattle.refusals.proofs.part_three_drawn.Statement.{statement}
 use Rattle.refusals.proofs.part_three_drawn.Tie as tie
 
+limits : (c : tie.Else1) → inLimits (c .before .before .before .before .before .before .before .before .args .p) ≡ true
+limits c = held (c .before .in-limits .ensures) (c .if1 .left)
+
+few : (c : tie.Else1) → Few (c .before .before .before .before .before .before .before .before .args .p)
+few c = limits-few _ (limits c)
+
+-- the lengths as they were compared; and 30 dice, behind them
+lengths : (c : tie.After-both3) → let s = c .before .before .before .before .before .before .before .before .before .before .before .before .before .before .args in c .both3 .result ≡ (equal (length (s .dice .now)) 30 and equal (s .one-len) (partOneLength (s .p)) and equal (s .two-len) (partTwoLength (s .p)) and equal (s .out-len) (partThreeLength (s .p)))
+lengths c =
+    pair (c .both3 .ensures) (equal-is _ _)
+    (pair (c .before .both2 .ensures) (long _ (c .before .before .at-first-dice .ensures .0))
+    (pair (c .before .before .before .both .ensures) (long _ (c .before .before .before .before .before .part-two-length .ensures)) (long _ (c .before .before .before .before .part-three-length .ensures))))
+
+dice-long : (c : tie.Else2) → length (c .before .before .before .before .before .before .before .before .before .before .before .before .before .before .before .args .dice .now) ≡ 30
+dice-long c = thirty (c .before .before .before .before .before .before .before .before .before .before .before .before .before .before .before .args .dice .now) _ (held (lengths (c .before)) (c .if2 .left))
+
 returns : tie.Need-returns
 unfolding partThreeDrawnRefusal
-returns c = c .part-three-drawn-shaped .ensures ∙ alike _ _ _ _ _ (λ few. (refl, c .before .shape-of .ensures (few .1))) (λ due. (refl, refl))
+returns c = outside _ _ _ _ _ (failed (c .before .in-limits .ensures) (c .if1 .taken))
+
+returns-2 : tie.Need-returns-2
+unfolding partThreeDrawnRefusal
+returns-2 c = undue _ _ _ _ _ (limits (c .before .before .before .before .before .before .before)) (failed (lengths (c .before)) (c .if2 .taken))
+
+returns-3 : tie.Need-returns-3
+unfolding partThreeDrawnRefusal
+returns-3 c =
+    due _ _ _ _ _ (limits (c .before .before .before .before .before .before .before .before .before .before)) (held (lengths (c .before .before .before .before)) (c .before .before .before .if2 .left)) (c .before .before .fair-dice .ensures ∙ fair-whole _ (dice-long (c .before .before .before)))
+    (c .before .right-shape .ensures) refl (c .refuse .ensures)
 
 pub part-three-drawn-spec : {M : Type 1} → statement M
 part-three-drawn-spec =
-    tie.close (tie.spec (λ c κs. search needs) (λ c κs. search needs) returns)
+    tie.close
+    (tie.spec
+    (λ c κs. search needs)
+    returns
+    (λ c κs. few c)
+    (λ c κs. few (c .before))
+    (λ c κs. search needs)
+    (λ c κs. few (c .before .before .before))
+    (λ c κs. search needs)
+    (λ c κs. search needs)
+    returns-2
+    (λ c κs. omega (arith, dice-long c))
+    (λ c κs. few (c .before .before .before .before .before .before .before .before) .compared)
+    (λ c κs. few (c .before .before .before .before .before .before .before .before .before))
+    returns-3)

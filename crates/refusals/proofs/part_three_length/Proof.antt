@@ -1,38 +1,21 @@
--- `refusals::part_three_length` meets its contract: the limits bound the product.
+-- `refusals::part_three_length` meets its contract: within the limits nothing wraps.
 use mathlib.Core.Path.{refl}
+use Prim.Native.Nat.{_*_, _≤_}
 use native.Mathlib.Nat.{mul-le-mul}
 use native.Mathlib.Omega.{arith}
 use borrow.Author.Needs.{needs}
 use Rattle.protocol.specs.Layout.{partThreeLength}
-use Rattle.refusals.proofs.Tests.{few-held, few-failed}
 use Rattle.refusals.proofs.part_three_length.Statement.{statement}
 use Rattle.refusals.proofs.part_three_length.Tie as tie
 
+most : (c : tie.After-struct-known2) → let p = c .before .before .args .p in p .compared * p .ballots ≤ 12 * 1024
+most c = mul-le-mul (c .before .before .pre .compared) (c .before .before .pre .ballots)
+
 returns : tie.Need-returns
-returns c few modulus = absurd (few-failed _ _ (c .before .few .ensures) (c .if1 .taken) few)
-
-mul-result-2 : tie.Need-mul-result-2
-mul-result-2 c = let h = few-held _ _ (c .before .few .ensures) (c .if1 .left) in omega (arith, mul-le-mul (h .1) (h .0))
-
-mul-result-3 : tie.Need-mul-result-3
-mul-result-3 c = let h = few-held _ _ (c .before .few .ensures) (c .if1 .left) in omega (arith, mul-le-mul (h .1) (h .0))
-
-add-result-2 : tie.Need-add-result-2
-add-result-2 c = let h = few-held _ _ (c .before .few .ensures) (c .if1 .left) in omega (arith, mul-le-mul (h .1) (h .0))
-
-returns-2 : tie.Need-returns-2
 unfolding partThreeLength
-returns-2 c few modulus = refl
+returns c = refl
 
 pub part-three-length-spec : {M : Type 1} → statement M
 part-three-length-spec =
     tie.close
-    (tie.spec
-    (λ c κs. search needs)
-    returns
-    (λ c. search needs)
-    (λ c. search needs)
-    mul-result-2
-    mul-result-3
-    add-result-2
-    returns-2)
+    (tie.spec (λ c. search needs) (λ c. search needs) (λ c. omega (arith, most c)) (λ c. omega (arith, most c)) (λ c. omega (arith, most c)) returns)

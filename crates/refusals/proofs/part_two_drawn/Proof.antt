@@ -1,32 +1,58 @@
--- `refusals::part_two_drawn` meets its contract: lengths matter only within the limits, dice only where they are 30.
-use mathlib.Core.Path.{refl, _∙_}
+-- `refusals::part_two_drawn` meets its contract: limits, lengths, then the rest.
+use mathlib.Core.Path.{_≡_, refl, _∙_}
+use mathlib.Core.Bool.{true}
+use native.Mathlib.Omega.{arith}
+use lib.ListN.{length}
 use borrow.Author.Needs.{needs}
-use Rattle.laws.specs.Tests.{equal-iff, and-iff, equal-is}
+use Rattle.laws.specs.Tests.{equal, _and_, equal-is, held, failed}
+use Rattle.protocol.specs.Terms.{inLimits}
+use Rattle.protocol.specs.Layout.{partOneLength, partTwoLength}
 use Rattle.protocol.specs.Inputs.{partTwoDrawnRefusal}
-use Rattle.refusals.proofs.Tests.{alike, long, pair}
+use Rattle.layout.specs.Bounds.{Few}
+use Rattle.refusals.proofs.Tests.{limits-few, long, pair, thirty, outside, undue, due, fair-whole}
 use Rattle.refusals.proofs.part_two_drawn.Statement.{statement}
 use Rattle.refusals.proofs.part_two_drawn.Tie as tie
 
+limits : (c : tie.Else1) → inLimits (c .before .before .before .before .before .before .before .before .args .p) ≡ true
+limits c = held (c .before .in-limits .ensures) (c .if1 .left)
+
+few : (c : tie.Else1) → Few (c .before .before .before .before .before .before .before .before .args .p)
+few c = limits-few _ (limits c)
+
+-- the lengths as they were compared; and 30 dice, behind them
+lengths : (c : tie.After-both2) → let s = c .before .before .before .before .before .before .before .before .before .before .before .before .args in c .both2 .result ≡ (equal (length (s .dice .now)) 30 and equal (s .one-len) (partOneLength (s .p)) and equal (s .out-len) (partTwoLength (s .p)))
+lengths c =
+    pair (c .both2 .ensures) (equal-is _ _)
+    (pair (c .before .both .ensures) (long _ (c .before .before .before .at-first-dice .ensures .0)) (long _ (c .before .before .part-two-length .ensures)))
+
+dice-long : (c : tie.Else2) → length (c .before .before .before .before .before .before .before .before .before .before .before .before .before .args .dice .now) ≡ 30
+dice-long c = thirty (c .before .before .before .before .before .before .before .before .before .before .before .before .before .args .dice .now) _ (held (lengths (c .before)) (c .if2 .left))
+
 returns : tie.Need-returns
 unfolding partTwoDrawnRefusal
-returns c =
-    c .refuse .ensures
-    ∙ alike _ _ _ _ _
-    (λ few. (
-      pair (c .before .before .both2 .ensures) (equal-is _ _)
-          (pair (c .before .before .before .both .ensures) (long _ (c .before .before .before .before .before .part-one-length .ensures few)) (long _ (c .before .before .before .before .part-two-length .ensures few 0))),
-      refl,
-    ))
-    (λ due. (c .before .fair-of .ensures (equal-iff _ _ .0 (and-iff _ _ .0 due .0)), refl))
+returns c = outside _ _ _ _ _ (failed (c .before .in-limits .ensures) (c .if1 .taken))
+
+returns-2 : tie.Need-returns-2
+unfolding partTwoDrawnRefusal
+returns-2 c = undue _ _ _ _ _ (limits (c .before .before .before .before .before)) (failed (lengths (c .before)) (c .if2 .taken))
+
+returns-3 : tie.Need-returns-3
+unfolding partTwoDrawnRefusal
+returns-3 c =
+    due _ _ _ _ _ (limits (c .before .before .before .before .before .before .before)) (held (lengths (c .before .before .before)) (c .before .before .if2 .left)) (c .before .fair-dice .ensures ∙ fair-whole _ (dice-long (c .before .before)))
+    refl refl (c .refuse .ensures)
 
 pub part-two-drawn-spec : {M : Type 1} → statement M
 part-two-drawn-spec =
     tie.close
     (tie.spec
     (λ c κs. search needs)
+    returns
+    (λ c κs. few c)
+    (λ c κs. few (c .before))
     (λ c κs. search needs)
     (λ c κs. search needs)
-    (λ c κs. search needs)
-    (λ c κs. search needs)
-    (λ c κs. search needs)
-    returns)
+    returns-2
+    (λ c κs. omega (arith, dice-long c))
+    (λ c κs. few (c .before .before .before .before .before .before))
+    returns-3)

@@ -1,4 +1,4 @@
--- `inputs::ids_rise` meets its contract: of the first i ids each is above the one before. There may be none, and i starts at 1.
+-- `refusals::ids_rise` meets its contract: of the first i ids each is above the one before. There may be none, and i starts at 1.
 use mathlib.Core.Path.{_≡_, refl, sym}
 use mathlib.Core.Bool.{Bool, true}
 use mathlib.Core.List.{List}
@@ -7,9 +7,9 @@ use native.Mathlib.Omega.{arith}
 use lib.ListN.{length}
 use Rattle.laws.specs.Tests.{equal, below, _or_, every, every-iff, every-more, every-stop, is-equal, not-equal, is-below, not-below, or-go, or-stop}
 use Rattle.protocol.specs.Terms.{item}
-use Rattle.inputs.specs.Contents.{rising}
-use Rattle.inputs.proofs.ids_rise.Statement.{statement}
-use Rattle.inputs.proofs.ids_rise.Tie as tie
+use Rattle.refusals.specs.Contents.{rising}
+use Rattle.refusals.proofs.ids_rise.Statement.{statement}
+use Rattle.refusals.proofs.ids_rise.Tie as tie
 
 abbrev riseAt : List ℕ → ℕ → Bool
 riseAt ids i = equal i 0 or below (item ids (i - 1)) (item ids i)

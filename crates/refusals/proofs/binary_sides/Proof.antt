@@ -1,4 +1,4 @@
--- `inputs::binary_sides` meets its contract: of the first i sides each is 0 or 1.
+-- `refusals::binary_sides` meets its contract: of the first i sides each is 0 or 1.
 use mathlib.Core.Path.{_≡_, refl, sym}
 use mathlib.Core.Bool.{Bool, true}
 use mathlib.Core.List.{List}
@@ -7,9 +7,9 @@ use native.Mathlib.Omega.{arith}
 use lib.ListN.{length}
 use Rattle.laws.specs.Tests.{atMost, every, every-more, every-stop, is-atMost, not-atMost}
 use Rattle.protocol.specs.Terms.{item}
-use Rattle.inputs.specs.Contents.{binary}
-use Rattle.inputs.proofs.binary_sides.Statement.{statement}
-use Rattle.inputs.proofs.binary_sides.Tie as tie
+use Rattle.refusals.specs.Contents.{binary}
+use Rattle.refusals.proofs.binary_sides.Statement.{statement}
+use Rattle.refusals.proofs.binary_sides.Tie as tie
 
 abbrev binaryAt : List ℕ → ℕ → Bool
 binaryAt sides i = atMost (item sides i) 1

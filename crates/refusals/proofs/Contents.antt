@@ -12,7 +12,7 @@ use Rattle.protocol.specs.Terms.{item}
 use Rattle.protocol.specs.Columns.{isPermutation}
 use Rattle.protocol.specs.Inputs.{Slices, listPermutations, inputsOf, idsRise, allPermutations}
 use Rattle.protocol.proofs.Unrefused.{permutation-iff}
-use Rattle.inputs.specs.Contents.{rising, permutationsIn}
+use Rattle.refusals.specs.Contents.{rising, permutationsIn}
 
 pub rising-is : (s : Slices) → length (s .ids) ≡ s .parameters .ballots → rising (s .ids) ≡ idsRise s
 unfolding rising idsRise
@@ -43,7 +43,7 @@ module _ (s : Slices) where
           get-piece (s .permutations) ((3 * l + c) * s .parameters .ballots) (s .parameters .ballots) i k ∙ ap (item (s .permutations)) at
           ∙ sym (get-piece (s .permutations) (l * (3 * s .parameters .ballots)) (3 * s .parameters .ballots) (c * s .parameters .ballots + i) (omega (arith, mul-le-mul-right {m = c} {n = 2} (s .parameters .ballots) (omega arith))))
 
-  pub permutations-in : permutationsIn (s .parameters .ballots) (2 * s .parameters .compared) (s .permutations) ≡ allPermutations s
+  pub permutations-in : permutationsIn (s .parameters) (s .permutations) ≡ allPermutations s
   unfolding permutationsIn allPermutations
   permutations-in = by-iff _ _ there back
     where
@@ -53,14 +53,14 @@ module _ (s : Slices) where
       three : ℕ → Bool
       three l = every (λ c. isPermutation (s .parameters .ballots) (inputsOf s .permutation l c)) 3
 
-      there : every flat (3 * (2 * s .parameters .compared)) ≡ true → every three (2 * s .parameters .compared) ≡ true
+      there : every flat (6 * s .parameters .compared) ≡ true → every three (2 * s .parameters .compared) ≡ true
       there e =
           every-iff three (2 * s .parameters .compared) .1
-          (λ l ll. every-iff (λ c. isPermutation (s .parameters .ballots) (inputsOf s .permutation l c)) 3 .1 (λ c lc. sym (one l c lc) ∙ every-iff flat (3 * (2 * s .parameters .compared)) .0 e (3 * l + c) (omega arith)))
+          (λ l ll. every-iff (λ c. isPermutation (s .parameters .ballots) (inputsOf s .permutation l c)) 3 .1 (λ c lc. sym (one l c lc) ∙ every-iff flat (6 * s .parameters .compared) .0 e (3 * l + c) (omega arith)))
 
-      back : every three (2 * s .parameters .compared) ≡ true → every flat (3 * (2 * s .parameters .compared)) ≡ true
+      back : every three (2 * s .parameters .compared) ≡ true → every flat (6 * s .parameters .compared) ≡ true
       back e =
-          every-iff flat (3 * (2 * s .parameters .compared)) .1
+          every-iff flat (6 * s .parameters .compared) .1
           (λ d ld.
           let split : 3 * (d / 3) + d % 3 ≡ d = omega arith in
           ap flat (sym split) ∙ one (d / 3) (d % 3) (omega arith)
