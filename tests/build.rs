@@ -8,7 +8,8 @@ const ARCHIVE: &str = "libpaddockyear.a";
 fn main() {
     println!("cargo:rerun-if-changed=build.rs");
     println!("cargo:rerun-if-env-changed=PADDOCKYEAR_ARCHIVE");
-    if env::var_os("CARGO_FEATURE_LINKED").is_some() {
+    let edited = env::var_os("CARGO_FEATURE_EDITED").is_some();
+    if env::var_os("CARGO_FEATURE_LINKED").is_some() && !edited {
         link(&archive_folder());
     }
 }

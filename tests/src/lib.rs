@@ -2,6 +2,8 @@
 //! tests run through it and through the product.
 
 pub mod boards;
+#[cfg(feature = "edited")]
+pub mod edited;
 pub mod edits;
 #[cfg(feature = "linked")]
 pub mod ffi;

@@ -1,15 +1,24 @@
-//! The reading of must-fail rounds, on reports in the prover's form that are written here: what counts as refused, and what does not.
+//! The reading of must-fail rounds: what an edit may change, what counts as refused, on reports
+//! that the prover wrote (`edits/*.report`, long lines cut), and what a run shows.
 
-use paddockyear_tests::edits::{enclosing, faults, parse, public_functions, reaches, refused};
+use paddockyear_tests::edits::report::{errors, kind, verdict, Kind, Verdict};
+use paddockyear_tests::edits::rounds::{parse, Edit};
+use paddockyear_tests::edits::sources::{Item, Sources};
+use paddockyear_tests::edits::translation::{translated, Library};
+use paddockyear_tests::edits::{faults, never_changed, resolved, unguarded, Run, Trial};
 
-const SOURCE: &str = "\
+const LIB: &str = "\
+mod halves;
+use halves::twice as doubled;
+
 const STEP: u32 = 7;
 
-// Twice x.
-pub fn twice(x: u32) -> u32
-    ensures { .. }
+// Twice x, x + y nowhere.
+pub fn four(x: u32) -> u32
+    ensures { λ r. ⌜ r ≡ x + y ⌝ }
 {
-    add(x, x)
+    // at last
+    add(doubled(x), halves::twice(x))
 }
 
 fn add(x: u32, y: u32) -> u32 {
@@ -17,100 +26,256 @@ fn add(x: u32, y: u32) -> u32 {
 }
 
 #[no_mangle]
-pub extern \"C\" fn face(x: u32) -> u32 {
-    twice(x) + STEP
+pub extern \"C\" fn face(x: &[u32]) -> u32 {
+    four(x[0]) + STEP
 }
 ";
 
-const ROUND: &str = "\
-# a round
-edit: first_twice in add for twice
-file: src/lib.rt
-old:     x + y
-new:     x + x
-edit: never_twice in face
-old:     twice(x) + STEP
-new:     twice(STEP) + STEP
+const HALVES: &str = "\
+use crate::add as sum;
+
+pub fn twice(x: u32) -> u32 {
+    sum(x, x)
+}
+
+fn add(x: u32) -> u32 {
+    x + 1
+}
 ";
 
-const REPORT: &str = "\
-/r/proofs/add/Proof.antt:9:3: error: `returns`: `omega`: the goal does not follow from what it read.
-/r/proofs/add/Proof.antt:12:3: error: `add-spec`: `returns` was not admitted (it has holes), so this cannot be checked
-/r/proofs/twice/Proof.antt:7:3: error: `twice-spec`: `close` was not admitted (it has holes), so this cannot be checked
-/r/proofs/face/Proof.antt:8:2: error: `need`: module `m` has no `Need-add` that can be named from here
-/r/proofs/moved/Proof.antt:8:2: error: `need`: this does not fit:
-  record `Start` has no field `before`
-/r/proofs/moved/Proof.antt:9:1: note: the two sides may simply be different
-fn crate::add: not proved
-fn crate::moved: not proved
-fn crate::twice: not proved; it calls `crate::add`, which is not proved
-fn crate::face: not proved
-fn crate::made: no proof: expected `made-spec`; `search` does not close `returns`
-fn crate::kept: proved
-";
+/// The controls and the first round of `wire` as it was when the reports were written.
+const WIRE: &str = include_str!("edits/wire.source");
+const CONTROLS: &str = include_str!("edits/controls/wire.edit");
+const CONTROLS_REPORT: &str = include_str!("edits/controls.report");
+const ROUND_REPORT: &str = include_str!("edits/round.report");
+const MODULES_REPORT: &str = include_str!("edits/modules.report");
+
+fn sources() -> Sources {
+    let files = [("src/lib.rt", LIB), ("src/halves.rt", HALVES)];
+    Sources::new(files.map(|(file, text)| (file.to_string(), text.to_string())).into())
+}
+
+fn wire() -> Sources {
+    Sources::new([("src/lib.rt".to_string(), WIRE.to_string())].into())
+}
+
+fn edit(head: &str, file: &str, old: &str, new: &str) -> Edit {
+    let text = format!("edit: {head}\nfile: {file}\nold: {old}\nnew: {new}\n");
+    parse(&text).expect("an edit").remove(0)
+}
+
+fn wrong(head: &str, file: &str, old: &str, new: &str) -> String {
+    resolved(&edit(head, file, old, new), &sources()).expect_err("something wrong")
+}
+
+fn item(path: &str) -> Item {
+    sources().at(path).expect("an item").clone()
+}
 
 #[test]
 fn edits_are_read_with_item_contract_and_texts() {
-    let edits = parse(ROUND).expect("a round");
-    let said: Vec<_> = edits.iter().map(|e| (&e.label[..], &e.item[..], &e.contract[..])).collect();
-    assert_eq!(said, [("first_twice", "add", "twice"), ("never_twice", "face", "face")]);
-    assert_eq!(edits[1].replaced, ["    twice(x) + STEP"]);
-    assert_eq!(edits[1].file, "src/lib.rt");
-}
-
-#[test]
-fn a_file_without_edit_lines_is_no_round() {
-    assert_eq!(parse("file: specs/A.antt\nold: a\nnew: b\n"), Ok(Vec::new()));
+    let text = "edit: a in add for four\nfile: src/lib.rt\nold:     x + y\nnew:     x + x\n\
+                edit: b in face\nold: STEP\nnew:\n";
+    let edits = parse(text).expect("a round");
+    assert_eq!((&edits[0].item[..], &edits[0].contract[..]), ("add", "four"));
+    assert_eq!(edits[0].replaced, [("    x + y".to_string(), "    x + x".to_string())]);
+    assert_eq!((&edits[1].contract[..], &edits[1].file[..]), ("face", "src/lib.rt"));
+    assert_eq!(edits[1].replaced[0].1, "");
 }
 
 #[test]
 fn malformed_rounds_are_refused() {
+    assert_eq!(parse("file: specs/A.antt\nold: a\nnew: b\n"), Ok(Vec::new()), "no round");
     assert!(parse("edit: a of f\nold: x\nnew: y\n").is_err());
     assert!(parse("edit: a in f\nedit: b in g\nold: x\nnew: y\n").is_err());
     assert!(parse("old: x\nnew: y\nedit: a in f\nold: x\nnew: y\n").is_err());
 }
 
 #[test]
-fn items_and_public_functions_are_found() {
-    assert_eq!(public_functions(SOURCE), ["twice", "face"]);
-    assert_eq!(enclosing(SOURCE, "x + y"), Some(("fn", "add")));
-    assert_eq!(enclosing(SOURCE, "u32 = 7"), Some(("const", "STEP")));
-    assert_eq!(enclosing(SOURCE, "x * y"), None);
+fn functions_of_modules_are_found() {
+    let all = sources();
+    let public: Vec<&str> = all.public_functions().iter().map(|item| &item.path[..]).collect();
+    assert_eq!(public, ["halves::twice", "four", "face"]);
+    assert_eq!(all.named("src/lib.rt", "add").map(|item| &item.path[..]), Some("add"));
+    assert_eq!(all.named("src/halves.rt", "add").map(|i| &i.path[..]), Some("halves::add"));
+    assert_eq!(all.named("src/lib.rt", "halves::add").map(|i| &i.file[..]), Some("src/halves.rt"));
+    assert_eq!(all.named("src/halves.rt", "four").map(|item| &item.path[..]), Some("four"));
 }
 
 #[test]
-fn calls_are_followed() {
-    assert!(reaches(SOURCE, "face", "add"), "by way of another function");
-    assert!(reaches(SOURCE, "add", "add"));
-    assert!(!reaches(SOURCE, "add", "twice"));
+fn calls_are_followed_through_modules() {
+    let all = sources();
+    assert!(all.reaches("four", "halves::twice"), "by its path, and by another name");
+    assert!(all.reaches("halves::twice", "add"), "through a use of the crate's root");
+    assert!(all.reaches("face", "halves::twice"), "by way of another function");
+    assert!(!all.reaches("face", "halves::add"), "one of the same name");
+    assert!(!all.reaches("add", "four"));
 }
 
 #[test]
-fn only_a_fact_of_its_own_refuses_a_function() {
-    assert!(refused(REPORT, "crate", "add"));
-    assert!(!refused(REPORT, "crate", "twice"), "a consequence of another function's error");
-    assert!(!refused(REPORT, "crate", "face"), "a name that the changed code no longer has");
-    assert!(!refused(REPORT, "crate", "moved"), "a field that the changed code no longer has");
-    assert!(refused(REPORT, "crate", "made"), "the search for a proof fails");
-    assert!(!refused(REPORT, "crate", "kept"));
-    assert!(!refused(REPORT, "other", "add"));
-    assert!(!refused("", "crate", "add"), "a round that was not tried");
+fn an_edit_changes_the_body_of_its_item() {
+    let all = sources();
+    assert!(resolved(&edit("a in add for four", "src/lib.rt", "    x + y", "    x"), &all).is_ok());
+    assert!(
+        wrong("a in add for four", "src/lib.rt", "x + y", "x").contains("body"),
+        "three places"
+    );
+    assert!(resolved(&edit("a in twice", "src/halves.rt", "sum(x, x)", "sum(x, 0)"), &all).is_ok());
+    assert!(resolved(&edit("a in STEP for face", "src/lib.rt", " 7", " 8"), &all).is_ok());
+    let signature = wrong(
+        "a in add for four",
+        "src/lib.rt",
+        "fn add(x: u32, y: u32)",
+        "fn add(x: u32, z: u32)",
+    );
+    assert!(signature.contains("body"));
+    assert!(
+        wrong("a in four", "src/lib.rt", "λ r. ⌜ r ≡ x", "λ r. ⌜ r ≡ r").contains("body"),
+        "a contract"
+    );
+    assert!(
+        wrong("a in four", "src/lib.rt", "// Twice x", "// Thrice x").contains("body"),
+        "a comment above"
+    );
+    assert!(wrong("a in four", "src/lib.rt", "// at last", "// at first").contains("no code"));
+    assert!(wrong("a in four", "src/halves.rt", "sum(x, x)", "sum(x, 0)").contains("body"));
 }
 
 #[test]
-fn faults_of_a_round_are_named() {
-    let named = |round: &str| {
-        let source = |file: &str| (file == "src/lib.rt").then(|| SOURCE.to_string());
-        faults("crate", &parse(round).expect("a round"), source, REPORT)
+fn an_edit_is_for_a_public_function_that_calls_the_changed_one() {
+    assert!(wrong("a in add", "src/halves.rt", "x + 1", "x").contains("public"));
+    assert!(wrong("a in add for twice", "src/halves.rt", "x + 1", "x").contains("public"));
+    assert!(wrong("a in STEP for four", "src/lib.rt", " 7", " 8").contains("uses the constant"));
+    assert!(
+        wrong("a in twice for other", "src/halves.rt", "sum(x, x)", "x").contains("no function")
+    );
+    assert!(wrong("a in four", "src/main.rt", "x", "y").contains("no such file"));
+}
+
+#[test]
+fn every_public_function_has_edits() {
+    let edits = [
+        edit("a in twice", "src/halves.rt", "sum(x, x)", "x"),
+        edit("b in twice for four", "src/halves.rt", "sum(x, x)", "0"),
+    ];
+    let few =
+        ["c::halves::twice", "c::four", "c::face"].map(|f| format!("{f} has fewer than two edits"));
+    assert_eq!(unguarded("c", &edits, &sources()), few);
+    let without = ["c::four", "c::face"].map(|f| format!("{f} has no edit in itself"));
+    assert_eq!(never_changed("c", &edits, &sources()), without);
+}
+
+#[test]
+fn the_prover_says_what_is_listed() {
+    let kinds =
+        |report: &str| -> Vec<Kind> { errors(report).iter().map(|(_, said)| kind(said)).collect() };
+    assert!(!kinds(ROUND_REPORT).contains(&Kind::Unknown));
+    assert!(kinds(ROUND_REPORT).contains(&Kind::Unproved));
+    assert_eq!(
+        kinds("/r/proofs/f/Proof.antt:1:1: error: `f`: a level is too high\n"),
+        [Kind::Unknown]
+    );
+}
+
+#[test]
+fn wrong_edits_are_refused_by_their_own_functions() {
+    let all = wire();
+    for name in ["read1", "read2", "read4", "read8", "put1", "put2", "put4", "copy", "same_bytes"] {
+        let function = all.at(name).expect("a function of wire");
+        assert_eq!(verdict(ROUND_REPORT, "wire", function), Verdict::Refused, "{name}");
+    }
+}
+
+#[test]
+fn a_consequence_is_no_refusal() {
+    let all = wire();
+    for name in ["put2", "put4", "read4", "read8", "read1"] {
+        let function = all.at(name).expect("a function of wire");
+        assert_eq!(verdict(CONTROLS_REPORT, "wire", function), Verdict::NotRefused, "{name}");
+    }
+    let function = all.at("put1").expect("put1");
+    assert_eq!(verdict(ROUND_REPORT, "other", function), Verdict::NotRefused);
+    assert_eq!(verdict("", "wire", function), Verdict::NotRefused, "a round that was not tried");
+}
+
+#[test]
+fn unknown_words_are_told() {
+    let report = "/r/proofs/add/Proof.antt:1:1: error: `add`: a level is too high\n\
+                  /r/proofs/add/Proof.antt:9:3: error: `r`: \
+                  `omega`: the goal does not follow from what it read.\n\
+                  fn c::add: not proved\n";
+    let told = verdict(report, "c", &item("add"));
+    assert_eq!(told, Verdict::Unknown("`add`: a level is too high".to_string()));
+}
+
+#[test]
+fn functions_of_modules_are_told_apart() {
+    let twice = item("halves::twice");
+    assert_eq!(verdict(MODULES_REPORT, "mods", &twice), Verdict::Refused);
+    let shared = MODULES_REPORT.replace("halves/twice", "halves/+twice+other");
+    assert_eq!(verdict(&shared, "mods", &twice), Verdict::Refused);
+    let elsewhere = MODULES_REPORT.replace("/halves/twice/Proof", "/twice/Proof");
+    assert_eq!(
+        verdict(&elsewhere, "mods", &twice),
+        Verdict::NotRefused,
+        "another module's function"
+    );
+    assert_eq!(verdict(MODULES_REPORT, "mods", &item("four")), Verdict::NotRefused);
+}
+
+/// The prover refuses the controls too: one because its proof no longer fits, two in the words that
+/// a wrong edit gets. The run is what tells them from wrong ones.
+#[test]
+fn controls_change_nothing() {
+    let edits = parse(CONTROLS).expect("the controls");
+    let run = Run::read(
+        "tried wire/last_eight_bits\ntried wire/factor_in_front\ntried wire/next_place_within\n",
+    );
+    let said = |run| faults("wire", &edits, &wire(), CONTROLS_REPORT, run);
+    assert_eq!(
+        said(None),
+        ["wire/next_place_within: no fact refuses it: its proof only no longer fits"]
+    );
+    for edit in &edits {
+        let line = format!("wire/{}: it changes nothing on any call of the tests", edit.label);
+        assert!(said(Some(&run)).contains(&line));
+    }
+}
+
+#[test]
+fn a_wrong_edit_changes_an_answer() {
+    let top = edit("top in put1", "src/lib.rt", "(x % 256) as u8", "(x / 16777216) as u8");
+    let said = |notes: &str| {
+        faults("wire", std::slice::from_ref(&top), &wire(), ROUND_REPORT, Some(&Run::read(notes)))
     };
-    assert_eq!(named(ROUND), ["crate/never_twice: no fact of its own refuses it"]);
-    let elsewhere = "edit: a in twice\nfile: src/lib.rt\nold: x + y\nnew: x\n";
-    assert!(named(elsewhere)[0].contains("does not change the item"));
-    let same = "edit: a in add for twice\nfile: src/lib.rt\nold: x + y\nnew: x\n\
-                edit: b in add for twice\nold: y: u32\nnew: z: u32\n";
-    assert!(named(same)[0].contains("changes the same item"));
-    let unguarded = "edit: a in add\nfile: src/lib.rt\nold: x + y\nnew: x\n";
-    assert!(named(unguarded)[0].contains("not for a public function"));
-    let missing = "edit: a in add for twice\nfile: src/main.rt\nold: x + y\nnew: x\n";
-    assert!(named(missing)[0].contains("no such file"));
+    assert!(said("tried wire/top\nchanged wire/top\n").is_empty());
+    assert_eq!(said("tried wire/top\n"), ["wire/top: it changes nothing on any call of the tests"]);
+    assert_eq!(said(""), ["wire/top: no test calls what it is for"]);
+    let twice = faults("wire", &[top.clone(), top.clone()], &wire(), ROUND_REPORT, None);
+    assert!(twice[0].contains("changes the same item"));
+}
+
+#[test]
+fn the_translation_has_every_edit_beside_the_code() {
+    let edit = edit("a in twice for four", "src/halves.rt", "sum(x, x)", "sum(x, 0)");
+    let trial = Trial {
+        library: "c".to_string(),
+        edit,
+        item: "halves::twice".to_string(),
+        contract: "four".to_string(),
+    };
+    let library =
+        Library { name: "c".to_string(), leans_on: vec!["d".to_string()], sources: sources() };
+    let text = translated(&[library], &[trial]).expect("a translation");
+    for part in [
+        "sum(x, 0)",
+        "sum(x, x)",
+        "pub mod halves {",
+        "use crate::edited::d;",
+        "length_of_x: usize",
+        "use crate::edited::c::add as sum;",
+    ] {
+        assert!(text.contains(part), "{part}");
+    }
+    assert!(!text.contains("ensures"));
 }

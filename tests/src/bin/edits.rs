@@ -1,84 +1,189 @@
-//! Reads what the prover said of each round of must-fail edits, after `rt ci` or `rt must-fail`:
-//! every edit is refused where it was made, and every public function has at least two. Run from
-//! the repository's root; arguments: the crates to look at, all of crates.txt if there are none.
+//! The must-fail edits of the crates, read after `rt ci` or `rt must-fail`: every edit is refused
+//! where it was made, and every public function guards at least two. Run from the root.
+//!
+//! - `edits translate FILE` writes the crates' code in Rust with the edits beside it, and starts
+//!   the notes of a run.
+//! - `edits [--run] [--own] [NAME..]` reads the reports of the crates, of all in crates.txt if none
+//!   is named. `--run`: the notes of the run must show that each edit changes an answer. `--own`:
+//!   every public function has an edit in itself.
 
-use paddockyear_tests::edits::{faults, parse, public_functions, Edit};
+use paddockyear_tests::edits::rounds::{parse, Edit};
+use paddockyear_tests::edits::sources::Sources;
+use paddockyear_tests::edits::translation::{translated, Library};
+use paddockyear_tests::edits::{faults, never_changed, resolved, unguarded, Run, Trial};
 use std::collections::BTreeMap;
 use std::fs;
+use std::hash::{DefaultHasher, Hash, Hasher};
 use std::path::{Path, PathBuf};
 use std::process::ExitCode;
 
-/// The crates of crates.txt, in its order.
-fn listed() -> Vec<String> {
+/// What the run notes, beside the reports.
+const NOTES: &str = "target/edits/changes";
+
+/// Edits that change nothing, by crate: the run must try them and see no change.
+const CONTROLS: &str = "tests/tests/edits/controls";
+
+/// The crates of crates.txt, in its order, each with those that it leans on.
+fn listed() -> Vec<(String, Vec<String>)> {
     let list =
         fs::read_to_string("crates.txt").expect("crates.txt in the folder that this is run from");
     let lines = list.lines().filter(|line| !line.starts_with('#'));
-    lines.filter_map(|line| line.split_once(':')).map(|(name, _)| name.to_string()).collect()
+    let pairs = lines.filter_map(|line| line.split_once(':'));
+    let words = |text: &str| text.split_whitespace().map(String::from).collect();
+    pairs.map(|(name, others)| (name.to_string(), words(others))).collect()
 }
 
-/// The files of a folder with this ending, sorted; none where there is no folder.
+/// The files below a folder with this ending, sorted; none where there is no folder.
 fn files(folder: &Path, ending: &str) -> Vec<PathBuf> {
     let Ok(entries) = fs::read_dir(folder) else {
         return Vec::new();
     };
-    let paths = entries.filter_map(|entry| entry.ok().map(|entry| entry.path()));
-    let mut paths: Vec<PathBuf> =
-        paths.filter(|path| path.extension().is_some_and(|e| e == ending)).collect();
-    paths.sort();
-    paths
+    let mut found = Vec::new();
+    for path in entries.filter_map(|entry| entry.ok().map(|entry| entry.path())) {
+        if path.is_dir() {
+            found.extend(files(&path, ending));
+        } else if path.extension().is_some_and(|e| e == ending) {
+            found.push(path);
+        }
+    }
+    found.sort();
+    found
 }
 
-/// The edits of one file and what is wrong with them.
-fn look(name: &str, file: &Path) -> (Vec<Edit>, Vec<String>) {
-    let text = fs::read_to_string(file).expect("an edit that can be read");
-    let edits = match parse(&text) {
-        Ok(edits) => edits,
-        Err(what) => return (Vec::new(), vec![format!("{}: {what}", file.display())]),
-    };
-    if edits.is_empty() {
-        return (edits, Vec::new());
-    }
-    let round = file.file_stem().expect("a file's name").to_string_lossy();
-    let report =
-        fs::read_to_string(format!("target/must-fail/{name}/{round}/.log")).unwrap_or_default();
+fn sources(name: &str) -> Sources {
     let root = PathBuf::from(format!("crates/{name}"));
-    let found = faults(name, &edits, |path| fs::read_to_string(root.join(path)).ok(), &report);
-    (edits, found)
+    let read = |path: PathBuf| {
+        let text = fs::read_to_string(&path).expect("a source that can be read");
+        let inner = path.strip_prefix(&root).expect("a file of the crate");
+        (inner.to_string_lossy().to_string(), text)
+    };
+    Sources::new(files(&root.join("src"), "rt").into_iter().map(read).collect::<BTreeMap<_, _>>())
 }
 
-/// The public functions of a crate that have fewer than two edits.
-fn unguarded(name: &str, edits: &[Edit]) -> Vec<String> {
-    let mut count: BTreeMap<&str, usize> = BTreeMap::new();
-    for edit in edits {
-        *count.entry(&edit.contract).or_default() += 1;
-    }
-    let sources = files(&PathBuf::from(format!("crates/{name}/src")), "rt");
-    let texts: Vec<String> = sources
-        .iter()
-        .map(|file| fs::read_to_string(file).expect("a source that can be read"))
+/// The edits of a file, or what is wrong with it.
+fn edits_of(file: &Path) -> Result<Vec<Edit>, String> {
+    let text = fs::read_to_string(file).map_err(|error| error.to_string());
+    text.and_then(|text| parse(&text)).map_err(|what| format!("{}: {what}", file.display()))
+}
+
+/// The rounds of a crate: the name of each file, and its edits or what is wrong with them.
+fn rounds(name: &str) -> Vec<(String, Result<Vec<Edit>, String>)> {
+    let folder = PathBuf::from(format!("crates/{name}/must-fail"));
+    let stem = |file: &Path| file.file_stem().expect("a file's name").to_string_lossy().to_string();
+    files(&folder, "edit").iter().map(|file| (stem(file), edits_of(file))).collect()
+}
+
+fn controls(name: &str) -> Vec<Edit> {
+    let file = format!("{CONTROLS}/{name}.edit");
+    edits_of(Path::new(&file)).unwrap_or_default()
+}
+
+/// What the run tries of a crate: its edits, and the controls for it.
+fn trials(library: &Library) -> Vec<Trial> {
+    let name = &library.name;
+    let edits = rounds(name).into_iter().flat_map(|(_, edits)| edits.unwrap_or_default());
+    let all = edits.chain(controls(name));
+    let trial = |edit: Edit| {
+        let (item, guard) = resolved(&edit, &library.sources).ok()?;
+        let (item, contract) = (item.path.clone(), guard.path.clone());
+        Some(Trial { library: name.clone(), edit, item, contract })
+    };
+    all.filter_map(trial).collect()
+}
+
+/// The code in Rust with all edits, and what tells this text from others.
+fn translation() -> Result<(String, String), String> {
+    let all = listed().into_iter();
+    let libraries: Vec<Library> = all
+        .map(|(name, leans_on)| Library { sources: sources(&name), name, leans_on })
+        .filter(|library| library.sources.files.contains_key("src/lib.rt"))
         .collect();
-    let public = texts.iter().flat_map(|text| public_functions(text));
-    let few = public.filter(|function| count.get(function).copied().unwrap_or(0) < 2);
-    few.map(|function| format!("{name}::{function} has fewer than two edits")).collect()
+    let trials: Vec<Trial> = libraries.iter().flat_map(trials).collect();
+    let text = translated(&libraries, &trials)?;
+    let mut sum = DefaultHasher::new();
+    text.hash(&mut sum);
+    Ok((text, format!("of {:016x}", sum.finish())))
+}
+
+fn translate(file: &str) -> Result<(), String> {
+    let (text, sum) = translation()?;
+    let folder = Path::new(NOTES).parent().expect("a folder");
+    let written = fs::create_dir_all(folder)
+        .and_then(|()| fs::write(file, text))
+        .and_then(|()| fs::write(NOTES, format!("{sum}\n")));
+    written.map_err(|error| format!("{file}: {error}"))
+}
+
+/// The notes of a run of the code as it is now.
+fn notes() -> Result<Run, String> {
+    let (_, sum) = translation()?;
+    let text = fs::read_to_string(NOTES).map_err(|error| format!("{NOTES}: {error}"))?;
+    if text.lines().next() != Some(&sum) {
+        return Err(format!("{NOTES}: of a run of other code"));
+    }
+    Ok(Run::read(&text))
+}
+
+/// How many edits of a crate are as they should be, and what is wrong.
+fn look(name: &str, run: Option<&Run>, own: bool) -> (usize, Vec<String>) {
+    let sources = sources(name);
+    let (mut all, mut wrong) = (Vec::new(), Vec::new());
+    for (round, edits) in rounds(name) {
+        let log = format!("target/must-fail/{name}/{round}/.log");
+        let report = fs::read_to_string(log).unwrap_or_default();
+        match edits {
+            Ok(edits) => {
+                wrong.extend(faults(name, &edits, &sources, &report, run));
+                all.extend(edits);
+            }
+            Err(what) => wrong.push(what),
+        }
+    }
+    let good = all.len().saturating_sub(wrong.len());
+    wrong.extend(unguarded(name, &all, &sources));
+    if own {
+        wrong.extend(never_changed(name, &all, &sources));
+    }
+    let names = controls(name).into_iter().map(|edit| format!("{name}/{}", edit.label));
+    let off = |name: &String| {
+        run.is_some_and(|run| !run.tried.contains(name) || run.changed.contains(name))
+    };
+    wrong.extend(
+        names.filter(off).map(|name| format!("{name}: a control that is not as it should be")),
+    );
+    (good, wrong)
+}
+
+fn read(words: &[String]) -> Result<(usize, usize), String> {
+    let has = |flag: &str| words.iter().any(|word| word == flag);
+    let run = if has("--run") { Some(notes()?) } else { None };
+    let named: Vec<String> = words.iter().filter(|word| !word.starts_with("--")).cloned().collect();
+    let all = || listed().into_iter().map(|(name, _)| name).collect();
+    let (mut good, mut bad) = (0, 0);
+    for name in if named.is_empty() { all() } else { named } {
+        let (right, wrong) = look(&name, run.as_ref(), has("--own"));
+        wrong.iter().for_each(|line| println!("edits: {line}"));
+        good += right;
+        bad += wrong.len();
+    }
+    Ok((good, bad))
 }
 
 fn main() -> ExitCode {
-    let named: Vec<String> = std::env::args().skip(1).collect();
-    let crates = if named.is_empty() { listed() } else { named };
-    let (mut good, mut bad) = (0, 0);
-    for name in &crates {
-        let mut all = Vec::new();
-        let mut wrong = Vec::new();
-        for file in files(&PathBuf::from(format!("crates/{name}/must-fail")), "edit") {
-            let (edits, found) = look(name, &file);
-            all.extend(edits);
-            wrong.extend(found);
-        }
-        good += all.len().saturating_sub(wrong.len());
-        wrong.extend(unguarded(name, &all));
-        wrong.iter().for_each(|line| println!("edits: {line}"));
-        bad += wrong.len();
-    }
+    let words: Vec<String> = std::env::args().skip(1).collect();
+    let (good, bad) = match &words[..] {
+        [first, file] if first == "translate" => match translate(file) {
+            Ok(()) => return ExitCode::SUCCESS,
+            Err(what) => {
+                println!("edits: {what}");
+                return ExitCode::FAILURE;
+            }
+        },
+        _ => read(&words).unwrap_or_else(|what| {
+            println!("edits: {what}");
+            (0, 1)
+        }),
+    };
     println!("{good} edits refused where they were made, {bad} faults");
     if bad == 0 {
         ExitCode::SUCCESS
