@@ -118,17 +118,20 @@ pub fn faults(
             Verdict::NotRefused => say("no fact of its own refuses it"),
             Verdict::Unknown(words) => say(&format!("unknown words of the prover: {words}")),
         }
-        if let Some(what) = run.and_then(|run| unchanged(run, &format!("{name}/{}", edit.label))) {
+        let label = format!("{name}/{}", edit.label);
+        if let Some(what) = run.and_then(|run| unchanged(run, &label, edit.unseen.is_some())) {
             say(what);
         }
     }
     found
 }
 
-/// What the run says against an edit.
-fn unchanged(run: &Run, name: &str) -> Option<&'static str> {
+/// What the run says against an edit, of which it may be said that no run can see it.
+fn unchanged(run: &Run, name: &str, unseen: bool) -> Option<&'static str> {
     match (run.tried.contains(name), run.changed.contains(name)) {
+        (_, true) if unseen => Some("it is said that no run sees it, and one does"),
         (_, true) => None,
+        _ if unseen => None,
         (true, false) => Some("it changes nothing on any call of the tests"),
         (false, false) => Some("no test calls what it is for"),
     }

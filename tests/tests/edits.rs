@@ -251,6 +251,15 @@ fn a_wrong_edit_changes_an_answer() {
     assert!(said("tried wire/top\nchanged wire/top\n").is_empty());
     assert_eq!(said("tried wire/top\n"), ["wire/top: it changes nothing on any call of the tests"]);
     assert_eq!(said(""), ["wire/top: no test calls what it is for"]);
+    let told = format!(
+        "edit: {}\nunseen: why\nfile: src/lib.rt\nold: {}\nnew: 0\n",
+        "a in put1", "x % 256"
+    );
+    let unseen = parse(&told).expect("an edit");
+    let said =
+        |notes: &str| faults("wire", &unseen, &wire(), ROUND_REPORT, Some(&Run::read(notes)));
+    assert!(said("tried wire/a\n").is_empty());
+    assert!(said("changed wire/a\n")[0].contains("no run sees it"));
     let twice = faults("wire", &[top.clone(), top.clone()], &wire(), ROUND_REPORT, None);
     assert!(twice[0].contains("changes the same item"));
 }

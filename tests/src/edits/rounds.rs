@@ -1,7 +1,8 @@
 //! The edits of a round, as a file of `crates/NAME/must-fail/` lists them.
 
 /// One edit: its name, the item that it changes, the public function whose contract rules it out,
-/// its file, and each text that it replaces with what comes there.
+/// its file, each text that it replaces with what comes there, and why no run can see it change
+/// something, where none can.
 #[derive(Clone, Debug, PartialEq, Eq)]
 pub struct Edit {
     pub label: String,
@@ -9,10 +10,12 @@ pub struct Edit {
     pub contract: String,
     pub file: String,
     pub replaced: Vec<(String, String)>,
+    pub unseen: Option<String>,
 }
 
 /// The edits of a file, none where it has no `edit:` line. Such a line is `edit: LABEL in ITEM` or
-/// `edit: LABEL in ITEM for CONTRACT`. A name with `::` in it starts from the crate's root.
+/// `edit: LABEL in ITEM for CONTRACT`. A name with `::` in it starts from the crate's root. A line
+/// `unseen: WHY` below it says that no run can show the change.
 pub fn parse(text: &str) -> Result<Vec<Edit>, String> {
     let mut edits: Vec<Edit> = Vec::new();
     let (mut file, mut old) = (String::new(), None);
@@ -21,6 +24,8 @@ pub fn parse(text: &str) -> Result<Vec<Edit>, String> {
             file = name.to_string();
         } else if let Some(words) = line.strip_prefix("edit: ") {
             edits.push(head(words)?);
+        } else if let (Some(why), Some(edit)) = (line.strip_prefix("unseen: "), edits.last_mut()) {
+            edit.unseen = Some(why.to_string());
         } else if let Some(words) = line.strip_prefix("old: ") {
             old = Some(words.to_string());
         } else if let (Some(new), Some(edit)) = (line.strip_prefix("new:"), edits.last_mut()) {
@@ -58,5 +63,6 @@ fn head(words: &str) -> Result<Edit, String> {
         contract: contract.to_string(),
         file: String::new(),
         replaced: Vec::new(),
+        unseen: None,
     })
 }
