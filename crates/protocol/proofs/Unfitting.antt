@@ -196,12 +196,12 @@ module _ (s : Slices) where
   part-three-drawn-first dice mask oneLong twoLong outLong =
       part-first _ _ _ _ _ _ _ _ (both (unequal-iff _ _) (both (unequal-iff _ _) (both (unequal-iff _ _) (unequal-iff _ _)))) (unfair-iff dice) (shape _ mask) untested
 
-  given-mask : (byMask : Choice ℕ) → Tells (maskInShape s byMask) (maskWrong s byMask)
+  given-mask : (byMask : Choice ℕ) → Tells (maskInShape (s .parameters) byMask) (maskWrong s byMask)
   unfolding maskInShape
   given-mask (chosen mask) = shape _ mask
   given-mask drawn = untested
 
-  given-long : (bySides : Choice (List ℕ)) → Tells (sidesDue s bySides) (sidesOtherLength s bySides)
+  given-long : (bySides : Choice (List ℕ)) → Tells (sidesDue (s .parameters) bySides) (sidesOtherLength s bySides)
   unfolding sidesDue
   given-long (chosen sides) = unequal-iff _ _
   given-long drawn = untested

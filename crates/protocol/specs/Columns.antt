@@ -48,4 +48,5 @@ rowRefusal M n numbers offsets permutation outLong =
 unfoldable pub pairRefusal : ℕ → ℕ → List ℕ → List ℕ → ℕ → ℕ
 pairRefusal M n first second outLong =
     rule 3 (modulusInLimits M and ballotsInLimits n)
-    (rule 18 (equal (length first) n and equal (length second) n and equal outLong n) (rule 10 (allBelow M first and allBelow M second) kept))
+    (rule 18 (equal (length first) n and equal (length second) n and equal outLong n)
+    (rule 10 (allBelow M first and allBelow M second) kept))

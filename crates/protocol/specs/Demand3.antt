@@ -42,20 +42,26 @@ pub record Commits (r₁ r₂ : List ℕ) (j vote : ℕ) : Type 0 where
   pub openings : ℕ → List ℕ
   pub shown₁ : (c : ℕ) → c < 3 → openings (2 * c + sideOf (parametersOf r₁) r₁ j) ≡ ballotOpeningOf (parametersOf r₁) r₁ j c
   pub shown₂ : (c : ℕ) → c < 3 → openings (2 * c + sideOf (parametersOf r₂) r₂ j) ≡ ballotOpeningOf (parametersOf r₂) r₂ j c
-  pub gives : (q : ℕ) → q < 6 → commitment (parametersOf r₁) (InBallot (idOf (parametersOf r₁) r₁ j) q) (openings q) ≡ ballotCommitmentOf (parametersOf r₁) r₁ j q
-  pub sum : vote ≡ (opened (openings 0) + opened (openings 1) + opened (openings 2) + opened (openings 3) + opened (openings 4) + opened (openings 5)) % parametersOf r₁ .modulus
+  pub gives : (q : ℕ) → q < 6
+      → commitment (parametersOf r₁) (InBallot (idOf (parametersOf r₁) r₁ j) q) (openings q) ≡ ballotCommitmentOf (parametersOf r₁) r₁ j q
+  pub sum : vote
+      ≡ (opened (openings 0) + opened (openings 1) + opened (openings 2) + opened (openings 3) + opened (openings 4) + opened (openings 5))
+      % parametersOf r₁ .modulus
 
 -- a commitment that a record posts
 pub data Posted (r : List ℕ) : Place → List ℕ → Type 0 where
-  by-ballot : (j q : ℕ) → j < parametersOf r .ballots → q < 6 → Posted r (InBallot (idOf (parametersOf r) r j) q) (ballotCommitmentOf (parametersOf r) r j q)
-  by-entry : (l i q : ℕ) → l < lists (parametersOf r) → i < parametersOf r .ballots → q < 6 → Posted r (InEntry l i q) (entryCommitmentOf (parametersOf r) r l i q)
+  by-ballot : (j q : ℕ) → j < parametersOf r .ballots → q < 6
+      → Posted r (InBallot (idOf (parametersOf r) r j) q) (ballotCommitmentOf (parametersOf r) r j q)
+  by-entry : (l i q : ℕ) → l < lists (parametersOf r) → i < parametersOf r .ballots → q < 6
+      → Posted r (InEntry l i q) (entryCommitmentOf (parametersOf r) r l i q)
 
 -- an opening that a record shows: in a ballot's half, in that of a linked entry, or in a full opening
 pub data Shown (r : List ℕ) : Place → List ℕ → Type 0 where
   in-ballot-half : (j c : ℕ) → j < parametersOf r .ballots → c < 3
       → Shown r (InBallot (idOf (parametersOf r) r j) (2 * c + sideOf (parametersOf r) r j)) (ballotOpeningOf (parametersOf r) r j c)
   in-list-half : (l j c : ℕ) → l < lists (parametersOf r) → bit (maskOf (parametersOf r) r) l ≡ 1 → j < parametersOf r .ballots → c < 3
-      → Shown r (InEntry l (positionOf (parametersOf r) r l j) (2 * c + sideOf (parametersOf r) r j)) (listOpeningOf (parametersOf r) r l j c)
+      → Shown r (InEntry l (positionOf (parametersOf r) r l j) (2 * c + sideOf (parametersOf r) r j))
+      (listOpeningOf (parametersOf r) r l j c)
   in-full-opening : (l i q : ℕ) → l < lists (parametersOf r) → bit (maskOf (parametersOf r) r) l ≡ 0 → i < parametersOf r .ballots → q < 6
       → Shown r (InEntry l i q) (fullOpeningOf (parametersOf r) r l i q)
 

@@ -101,10 +101,14 @@ pub record Disclosure : Type 0 where
 
 -- what a record says
 abbrev pub boardOf : List ℕ → Board
-boardOf r = let p = parametersOf r in record { parameters = p; id = idOf p r; ballotCommitment = ballotCommitmentOf p r; entryCommitment = entryCommitmentOf p r }
+boardOf r =
+    let p = parametersOf r in
+    record { parameters = p; id = idOf p r; ballotCommitment = ballotCommitmentOf p r; entryCommitment = entryCommitmentOf p r }
 
 abbrev pub comparisonOf : List ℕ → Comparison
-comparisonOf r = let p = parametersOf r in record { dice = firstDiceOf p r; mask = maskOf p r; position = positionOf p r; shift = shiftOf p r }
+comparisonOf r =
+    let p = parametersOf r in
+    record { dice = firstDiceOf p r; mask = maskOf p r; position = positionOf p r; shift = shiftOf p r }
 
 abbrev pub disclosureOf : List ℕ → Disclosure
 disclosureOf r =

@@ -1,5 +1,6 @@
 -- Document 01, "What is refused": the rules of each command, in rising order. A rule reads its operands, and those of earlier
--- commands, from the record. `rule k test rest` is k where the test fails, else what the rest says; `kept` is no rule broken (`laws` `Faults`).
+-- commands, from the record. `rule k test rest` is k where the test fails, else what the rest says; `kept` is no rule broken (`laws`
+-- `Faults`).
 -- `every t k`: the test t holds of 0 to k - 1 (`laws` `Tests`). `p .modulus`, `p .ballots` and `p .compared` are M, n and m.
 use mathlib.Core.Bool.{Bool}
 use mathlib.Core.List.{List}
@@ -42,10 +43,10 @@ numbersBelow M openings k = every (λ i. below (opened (openings i)) M) k
 unfoldable pub gives : Parameters → Place → List ℕ → List ℕ → Bool
 gives p place o posted = same (commitment p place o) posted
 
--- rule 14, "the two halves disagree": "the ballot's three opened numbers must equal in sum: on side 0 the list's three plus t, on side 1 the list's three
--- minus t". `ballot` and `list` are the sums of the three. The sign changes because t is what the ballot's first halves have more than the list's
--- (`linkShift` in `Servers`): its second halves have that much less, and over both sides t cancels (`both-sides` in `laws` `Modular`). No side
--- above 1 comes here, by rule 11.
+-- rule 14, "the two halves disagree": "the ballot's three opened numbers must equal in sum: on side 0 the list's three plus t, on side 1
+-- the list's three minus t". `ballot` and `list` are the sums of the three. The sign changes because t is what the ballot's first halves
+-- have more than the list's (`linkShift` in `Servers`): its second halves have that much less, and over both sides t cancels (`both-sides`
+-- in `laws` `Modular`). No side above 1 comes here, by rule 11.
 unfoldable pub agrees : ℕ → ℕ → ℕ → ℕ → ℕ → Bool
 agrees M zero ballot list t = equal ballot (plus M list t)
 agrees M (suc side) ballot list t = equal ballot (minus M list t)
@@ -88,20 +89,29 @@ module _ (p : Parameters) (r : List ℕ) where
   -- v1, v2, v3": slots 0, 2, 4 and 1, 3, 5
   unfoldable pub ballotHalfRules : Bool → ℕ → ℕ
   ballotHalfRules drawn j =
+      let side = sideOf p r j in
       rule 4 (equal (number r (atBallotHalf p j + 1) 2) j)
       (rule 10 (numbersBelow (p .modulus) (ballotOpeningOf p r j) 3)
-      (rule 11 (atMost (sideOf p r j) 1)
-      (rule 12 (drawn implies equal (sideOf p r j) (drawnSide (challenge (secondDiceOf p r) (take (atSecondDice p) r)) j))
-      (rule 13 (every (λ k. gives p (InBallot (idOf p r j) (2 * k + sideOf p r j)) (ballotOpeningOf p r j k) (ballotCommitmentOf p r j (2 * k + sideOf p r j))) 3) kept))))
+      (rule 11 (atMost side 1)
+      (rule 12 (drawn implies equal side (drawnSide (challenge (secondDiceOf p r) (take (atSecondDice p) r)) j))
+      (rule 13
+      (every (λ k. gives p (InBallot (idOf p r j) (2 * k + side)) (ballotOpeningOf p r j k) (ballotCommitmentOf p r j (2 * k + side))) 3)
+      kept))))
 
   -- 08: 4, the position being "the linked one"; 10; 13, "of the same side"; 14
   unfoldable pub listHalfRules : ℕ → ℕ → ℕ
   listHalfRules l j =
+      let side = sideOf p r j in
+      let i = positionOf p r l j in
       rule 4 (equal (number r (listHalfPlace p r l j + 1) 1) l)
-      (rule 4 (equal (number r (listHalfPlace p r l j + 2) 2) (positionOf p r l j))
+      (rule 4 (equal (number r (listHalfPlace p r l j + 2) 2) i)
       (rule 10 (numbersBelow (p .modulus) (listOpeningOf p r l j) 3)
-      (rule 13 (every (λ k. gives p (InEntry l (positionOf p r l j) (2 * k + sideOf p r j)) (listOpeningOf p r l j k) (entryCommitmentOf p r l (positionOf p r l j) (2 * k + sideOf p r j))) 3)
-      (rule 14 (agrees (p .modulus) (sideOf p r j) (sumOfThree (p .modulus) (ballotOpeningOf p r j)) (sumOfThree (p .modulus) (listOpeningOf p r l j)) (shiftOf p r l j)) kept))))
+      (rule 13
+      (every (λ k. gives p (InEntry l i (2 * k + side)) (listOpeningOf p r l j k) (entryCommitmentOf p r l i (2 * k + side))) 3)
+      (rule 14
+      (agrees (p .modulus) side (sumOfThree (p .modulus) (ballotOpeningOf p r j)) (sumOfThree (p .modulus) (listOpeningOf p r l j))
+      (shiftOf p r l j))
+      kept))))
 
   -- 09: 4; 10; 15, "No vote is smaller than the one before"
   unfoldable pub voteRules : ℕ → ℕ
@@ -117,7 +127,9 @@ module _ (p : Parameters) (r : List ℕ) where
       (rule 4 (equal (number r (fullPlace p r l i + 2) 2) i)
       (rule 10 (numbersBelow (p .modulus) (fullOpeningOf p r l i) 6)
       (rule 13 (every (λ q. gives p (InEntry l i q) (fullOpeningOf p r l i q) (entryCommitmentOf p r l i q)) 6)
-      (rule 16 (equal (i + 1) (p .ballots) implies permutes (λ k. sumOfSix (p .modulus) (fullOpeningOf p r l k)) (voteOf p r) (p .ballots)) kept))))
+      (rule 16
+      (equal (i + 1) (p .ballots) implies permutes (λ k. sumOfSix (p .modulus) (fullOpeningOf p r l k)) (voteOf p r) (p .ballots))
+      kept))))
 
   abbrev pub rules : Bool → Due → ℕ
   rules drawn First = firstRules r

@@ -26,7 +26,10 @@ module _ (s : Inputs) where
 
   -- "rows one and two are given, row three's is worked out"
   unfoldable pub rowOffset : ℕ → ℕ → ℕ → ℕ → ℕ
-  rowOffset l c k i = oneOfThree k (s .offset l c 0 i) (s .offset l c 1 i) (thirdOffset (s .parameters .modulus) (s .offset l c 0 i) (s .offset l c 1 i))
+  rowOffset l c k i =
+      let one = s .offset l c 0 i in
+      let two = s .offset l c 1 i in
+      oneOfThree k one two (thirdOffset (s .parameters .modulus) one two)
 
   -- column c of list l at row k
   unfoldable pub column : ℕ → ℕ → ℕ → (ℕ → ℕ) → ℕ → ℕ
@@ -108,7 +111,8 @@ module _ (s : Slices) where
 
   -- sides given
   unfoldable pub thirdPart : List ℕ → ℕ → List ℕ → List ℕ
-  thirdPart dice mask sides = partThree (inputsOf s .parameters) mask (linkPosition (inputsOf s)) (postedDisclosure (inputsOf s) dice (item sides))
+  thirdPart dice mask sides =
+      partThree (inputsOf s .parameters) mask (linkPosition (inputsOf s)) (postedDisclosure (inputsOf s) dice (item sides))
 
   -- sides drawn
   unfoldable pub sidesFor : List ℕ → List ℕ → List ℕ → List ℕ

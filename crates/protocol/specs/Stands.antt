@@ -22,14 +22,16 @@ pub record Laid (p : Parameters) (r : List ℕ) : Type 0 where
   pub long : length r ≡ 75 + 316 * p .ballots + 734 * (p .compared * p .ballots)
   pub first : item r 0 ≡ 0x01
   pub ballots : (j : ℕ) → j < p .ballots → item r (atBallot p j) ≡ 0x02
-  pub entries : (l i : ℕ) → l < lists p → i < p .ballots → (item r (atEntry p l i) ≡ 0x03) × ((number r (atEntry p l i + 1) 1 ≡ l) × (number r (atEntry p l i + 2) 2 ≡ i))
+  pub entries : (l i : ℕ) → l < lists p → i < p .ballots
+      → (item r (atEntry p l i) ≡ 0x03) × ((number r (atEntry p l i + 1) 1 ≡ l) × (number r (atEntry p l i + 2) 2 ≡ i))
   pub first-dice : item r (atFirstDice p) ≡ 0x04
   pub links : (l j : ℕ) → l < lists p → bit (maskOf p r) l ≡ 1 → j < p .ballots
       → (item r (linkPlace p r l j) ≡ 0x05) × ((number r (linkPlace p r l j + 1) 1 ≡ l) × (number r (linkPlace p r l j + 2) 2 ≡ j))
   pub second-dice : item r (atSecondDice p) ≡ 0x06
   pub ballot-halves : (j : ℕ) → j < p .ballots → (item r (atBallotHalf p j) ≡ 0x07) × (number r (atBallotHalf p j + 1) 2 ≡ j)
   pub list-halves : (l j : ℕ) → l < lists p → bit (maskOf p r) l ≡ 1 → j < p .ballots
-      → (item r (listHalfPlace p r l j) ≡ 0x08) × ((number r (listHalfPlace p r l j + 1) 1 ≡ l) × (number r (listHalfPlace p r l j + 2) 2 ≡ positionOf p r l j))
+      → (item r (listHalfPlace p r l j) ≡ 0x08)
+      × ((number r (listHalfPlace p r l j + 1) 1 ≡ l) × (number r (listHalfPlace p r l j + 2) 2 ≡ positionOf p r l j))
   pub votes : (i : ℕ) → i < p .ballots → (item r (atVote p i) ≡ 0x09) × (number r (atVote p i + 1) 2 ≡ i)
   pub full-openings : (l i : ℕ) → l < lists p → bit (maskOf p r) l ≡ 0 → i < p .ballots
       → (item r (fullPlace p r l i) ≡ 0x0A) × ((number r (fullPlace p r l i + 1) 1 ≡ l) × (number r (fullPlace p r l i + 2) 2 ≡ i))
@@ -54,7 +56,8 @@ pub record Valid (b : Board) (k : Comparison) (d : Disclosure) : Type 0 where
   -- "One list's positions all differ.", and are below n: rule 9
   pub positions : (l : ℕ) → l < lists (b .parameters) → bit (k .mask) l ≡ 1 → Perm (b .parameters .ballots) (k .position l)
   -- t below M
-  pub shifts : (l j : ℕ) → l < lists (b .parameters) → bit (k .mask) l ≡ 1 → j < b .parameters .ballots → k .shift l j < b .parameters .modulus
+  pub shifts : (l j : ℕ) → l < lists (b .parameters) → bit (k .mask) l ≡ 1 → j < b .parameters .ballots
+      → k .shift l j < b .parameters .modulus
   -- "30 characters", fair as the first
   pub second-fair : (i : ℕ) → i < 30 → (49 ≤ item (d .dice) i) × (item (d .dice) i ≤ 54)
   -- "Side 0 opens u1, u2, u3 and side 1 opens v1, v2, v3."
@@ -62,31 +65,41 @@ pub record Valid (b : Board) (k : Comparison) (d : Disclosure) : Type 0 where
   -- every opened number below M, every opening giving its commitment
   pub ballot-numbers : (j c : ℕ) → j < b .parameters .ballots → c < 3 → opened (d .ballotOpening j c) < b .parameters .modulus
   pub ballot-opens : (j c : ℕ) → j < b .parameters .ballots → c < 3
-      → commitment (b .parameters) (InBallot (b .id j) (2 * c + d .side j)) (d .ballotOpening j c) ≡ b .ballotCommitment j (2 * c + d .side j)
+      → commitment (b .parameters) (InBallot (b .id j) (2 * c + d .side j)) (d .ballotOpening j c)
+      ≡ b .ballotCommitment j (2 * c + d .side j)
   -- "three openings of the same side"
-  pub list-numbers : (l j c : ℕ) → l < lists (b .parameters) → bit (k .mask) l ≡ 1 → j < b .parameters .ballots → c < 3 → opened (d .listOpening l j c) < b .parameters .modulus
+  pub list-numbers : (l j c : ℕ) → l < lists (b .parameters) → bit (k .mask) l ≡ 1 → j < b .parameters .ballots → c < 3
+      → opened (d .listOpening l j c) < b .parameters .modulus
   pub list-opens : (l j c : ℕ) → l < lists (b .parameters) → bit (k .mask) l ≡ 1 → j < b .parameters .ballots → c < 3
-      → commitment (b .parameters) (InEntry l (k .position l j) (2 * c + d .side j)) (d .listOpening l j c) ≡ b .entryCommitment l (k .position l j) (2 * c + d .side j)
+      → commitment (b .parameters) (InEntry l (k .position l j) (2 * c + d .side j)) (d .listOpening l j c)
+      ≡ b .entryCommitment l (k .position l j) (2 * c + d .side j)
   -- "on side 0 the list's three plus t"
   pub first-halves-agree : (l j : ℕ) → l < lists (b .parameters) → bit (k .mask) l ≡ 1 → j < b .parameters .ballots → d .side j ≡ 0
       → (opened (d .ballotOpening j 0) + opened (d .ballotOpening j 1) + opened (d .ballotOpening j 2)) % b .parameters .modulus
-      ≡ (opened (d .listOpening l j 0) + opened (d .listOpening l j 1) + opened (d .listOpening l j 2) + k .shift l j) % b .parameters .modulus
+      ≡ (opened (d .listOpening l j 0) + opened (d .listOpening l j 1) + opened (d .listOpening l j 2) + k .shift l j)
+      % b .parameters .modulus
   -- "on side 1 the list's three minus t": the ballot's plus t are the list's
   pub second-halves-agree : (l j : ℕ) → l < lists (b .parameters) → bit (k .mask) l ≡ 1 → j < b .parameters .ballots → d .side j ≡ 1
-      → (opened (d .ballotOpening j 0) + opened (d .ballotOpening j 1) + opened (d .ballotOpening j 2) + k .shift l j) % b .parameters .modulus
+      → (opened (d .ballotOpening j 0) + opened (d .ballotOpening j 1) + opened (d .ballotOpening j 2) + k .shift l j)
+      % b .parameters .modulus
       ≡ (opened (d .listOpening l j 0) + opened (d .listOpening l j 1) + opened (d .listOpening l j 2)) % b .parameters .modulus
   -- votes below M
   pub votes-below : (i : ℕ) → i < b .parameters .ballots → d .vote i < b .parameters .modulus
   -- "No vote is smaller than the one before."
   pub votes-rise : (i : ℕ) → suc i < b .parameters .ballots → d .vote i ≤ d .vote (suc i)
   -- all six openings of every place of an opened list
-  pub full-numbers : (l i q : ℕ) → l < lists (b .parameters) → bit (k .mask) l ≡ 0 → i < b .parameters .ballots → q < 6 → opened (d .fullOpening l i q) < b .parameters .modulus
+  pub full-numbers : (l i q : ℕ) → l < lists (b .parameters) → bit (k .mask) l ≡ 0 → i < b .parameters .ballots → q < 6
+      → opened (d .fullOpening l i q) < b .parameters .modulus
   pub full-opens : (l i q : ℕ) → l < lists (b .parameters) → bit (k .mask) l ≡ 0 → i < b .parameters .ballots → q < 6
       → commitment (b .parameters) (InEntry l i q) (d .fullOpening l i q) ≡ b .entryCommitment l i q
   -- "An opened list's n values (six numbers summed) are a permutation of the announced votes": each number is among them as often
   pub values : (l : ℕ) → l < lists (b .parameters) → bit (k .mask) l ≡ 0 → (x : ℕ)
       → times x
-      (λ i. (opened (d .fullOpening l i 0) + opened (d .fullOpening l i 1) + opened (d .fullOpening l i 2) + opened (d .fullOpening l i 3) + opened (d .fullOpening l i 4) + opened (d .fullOpening l i 5)) % b .parameters .modulus)
+      (λ i.
+      (opened (d .fullOpening l i 0) + opened (d .fullOpening l i 1) + opened (d .fullOpening l i 2) + opened (d .fullOpening l i 3)
+      + opened (d .fullOpening l i 4)
+      + opened (d .fullOpening l i 5))
+      % b .parameters .modulus)
       (b .parameters .ballots)
       ≡ times x (d .vote) (b .parameters .ballots)
 

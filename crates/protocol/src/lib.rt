@@ -3,8 +3,8 @@
 // The limit on the number of ballots, and the length of a row of marks.
 pub const MOST_BALLOTS: usize = 1024;
 
-// How the servers' inputs are cut: the numbers of a ballot, the numbers and the permutations' numbers of a list entry, and the bytes of keys
-// of either.
+// How the servers' inputs are cut: the numbers of a ballot, the numbers and the permutations' numbers of a list entry, and the bytes of
+// keys of either.
 pub const BALLOT_NUMBERS: usize = 5;
 
 pub const ENTRY_NUMBERS: usize = 9;
@@ -36,7 +36,8 @@ pub enum Due {
     End,
 }
 
-// Where a commitment is posted: one of the six slots u1, v1, u2, v2, u3, v3 of a ballot, by its id, or of a list entry, by list and position.
+// Where a commitment is posted: one of the six slots u1, v1, u2, v2, u3, v3 of a ballot, by its id, or of a list entry, by list and
+// position.
 pub enum Place {
     InBallot(u32, usize),
     InEntry(usize, usize, usize),

@@ -60,7 +60,7 @@ unfolding inFront
 front-length v l e = omega (arith, ap length e, length-append v (drop (length v) l))
 
 module _ (votes values₀ counts₀ : List ℕ) {values counts : List ℕ} {pairs : ℕ} (v : values ≡ inFront (distinctVotes votes) values₀)
-  (c : counts ≡ inFront (voteCounts votes) counts₀) (n : pairs ≡ length (distinctVotes votes)) where
+    (c : counts ≡ inFront (voteCounts votes) counts₀) (n : pairs ≡ length (distinctVotes votes)) where
   counts-long : length (voteCounts votes) ≡ length (distinctVotes votes)
   unfolding voteCounts
   counts-long = length-map (distinctVotes votes) _

@@ -13,8 +13,8 @@ ghost use Rattle.results.specs.Pages.{lineMost, LinesReady, LinesRoom, A
 use crate::tally::fill;
 use crate::votes::read_votes;
 use laws::Found;
-use protocol::Parameters;
 use protocol::MOST_BALLOTS;
+use protocol::Parameters;
 
 // Writes the line of a vote, one space, and how often it was announced from a place on, and answers the next place.
 fn put_line(out: &mut [u8], at: usize, vote: u32, count: u32) -> usize
@@ -42,7 +42,13 @@ fn put_lines(values: &[u32], counts: &[u64], pairs: usize, out: &mut [u8], at: u
 }
 
 // Writes the lines of the votes' tally, by way of two slices of the votes' length, and answers the next place.
-fn put_tally(votes: &[u32], values: &mut [u32], counts: &mut [u64], out: &mut [u8], at: usize) -> usize
+fn put_tally(
+    votes: &[u32],
+    values: &mut [u32],
+    counts: &mut [u64],
+    out: &mut [u8],
+    at: usize,
+) -> usize
     requires { ⌜ LinesRoom (now votes) (length (now values)) (length (now counts)) (length (now out)) at ⌝ }
     ensures { λ r. ⌜ Went (before out) at (tallyLines (before votes)) (after out) r ⌝ }
 {
@@ -90,5 +96,13 @@ pub fn put_result(bytes: &[u8], out: &mut [u8], at: usize) -> usize
     let mut votes = numbers();
     let mut values = numbers();
     let mut counts = counters();
-    put_announced(bytes, p, &mut votes[..n], &mut values[..n], &mut counts[..n], out, at)
+    put_announced(
+        bytes,
+        p,
+        &mut votes[..n],
+        &mut values[..n],
+        &mut counts[..n],
+        out,
+        at,
+    )
 }
