@@ -25,13 +25,17 @@ fn ballots_of_a_record() {
     assert_eq!(results::ballots(&[1, 0, 0, 0, 5, 0, 3]), 0);
 }
 
-/// Other dice than those that the mask was drawn from: plain judging does not mind.
+/// A record that ends with the second dice, and other first dice than those that the mask was drawn
+/// from, which plain judging does not mind.
 #[test]
-fn other_dice() {
+fn dice() {
     let (_, mut board) = files().into_iter().find(|(name, _)| name == "one-ballot.board").unwrap();
-    let dice = 8 + 197 + 2 * 196 * usize::from(board[7]) + 1;
-    assert_eq!(board[dice - 1], 4);
+    let compared = usize::from(board[7]);
+    let dice = 8 + 197 + 2 * 196 * compared + 1;
+    let second_dice = dice + 34 + 10 * compared + 1;
+    assert_eq!((board[dice - 1], board[second_dice - 1]), (4, 6));
     assert_eq!(verifier::judge_as_drawn(&board), Verdict::Accepted);
+    assert_eq!(verifier::judge_as_drawn(&board[..second_dice + 30]), Verdict::Refused(1));
     for place in dice..dice + 30 {
         board[place] = if board[place] == b'1' { b'2' } else { b'1' };
         assert_eq!(verifier::judge_plainly(&board), Verdict::Accepted);

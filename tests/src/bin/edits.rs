@@ -8,7 +8,7 @@
 //!   every public function has an edit in itself.
 
 use paddockyear_tests::edits::rounds::{parse, Edit};
-use paddockyear_tests::edits::sources::Sources;
+use paddockyear_tests::edits::sources::{Item, Sources};
 use paddockyear_tests::edits::translation::{translated, Library};
 use paddockyear_tests::edits::{faults, never_changed, resolved, unguarded, Run, Trial};
 use std::collections::BTreeMap;
@@ -78,14 +78,18 @@ fn controls(name: &str) -> Vec<Edit> {
     edits_of(Path::new(&file)).unwrap_or_default()
 }
 
-/// What the run tries of a crate: its edits, and the controls for it.
+/// What the run tries of a crate: its edits, and the controls for it. One that a private function
+/// guards, an edit of a constant, is tried on the calls of a public one that calls it.
 fn trials(library: &Library) -> Vec<Trial> {
     let name = &library.name;
     let edits = rounds(name).into_iter().flat_map(|(_, edits)| edits.unwrap_or_default());
     let all = edits.chain(controls(name));
     let trial = |edit: Edit| {
         let (item, guard) = resolved(&edit, &library.sources).ok()?;
-        let (item, contract) = (item.path.clone(), guard.path.clone());
+        let reaches = |other: &&Item| library.sources.reaches(&other.path, &guard.path);
+        let called = library.sources.public_functions().into_iter().find(reaches);
+        let contract = if guard.public { guard } else { called? };
+        let (item, contract) = (item.path.clone(), contract.path.clone());
         Some(Trial { library: name.clone(), edit, item, contract })
     };
     all.filter_map(trial).collect()

@@ -91,7 +91,7 @@ fn between(lib: &Library, name: &str, text: &str, trials: &[Trial]) -> Result<St
     Ok(all)
 }
 
-/// A constant; one that is edited is a function, which answers by the edit that is on.
+/// A constant; beside one that is edited, a function that answers by the edit that is on.
 fn constant(library: &Library, item: &Item, trials: &[Trial]) -> String {
     let edited = numbers(library, trials, |trial| trial.item == item.path);
     let text = library.sources.text(item);
@@ -104,21 +104,25 @@ fn constant(library: &Library, item: &Item, trials: &[Trial]) -> String {
     let arms = edited.iter().map(|&n| format!("{n} => {},\n", trials[n - 1].applied(value)));
     let arms: String = arms.collect();
     format!(
-        "pub fn {}() -> {kind} {{\nmatch active() {{\n{arms}_ => {value},\n}}\n}}\n",
+        "{text}\npub fn {}() -> {kind} {{\nmatch active() {{\n{arms}_ => {value},\n}}\n}}\n",
         now(item.name())
     )
 }
 
-/// The name of the function that an edited constant becomes.
+/// The name of the function beside an edited constant.
 fn now(constant: &str) -> String {
     format!("now_{}", constant.to_lowercase())
 }
 
-/// The body of a function, with a count in each loop, and with the edited constants as calls.
+/// The body of a function, with a count in each loop.
+fn counted(library: &Library, text: &str) -> String {
+    let text = text.replace("while ", "while tick() && ").replace("loop {", "loop {\ntick();");
+    text.replace("crate::", &format!("{ROOT}::{}::", library.name))
+}
+
+/// The same, with the edited constants as calls.
 fn body(library: &Library, text: &str, trials: &[Trial]) -> String {
-    let mut text = text.replace("while ", "while tick() && ");
-    text = text.replace("loop {", "loop {\ntick();");
-    text = text.replace("crate::", &format!("{ROOT}::{}::", library.name));
+    let mut text = counted(library, text);
     let edited = trials.iter().filter(|trial| trial.library == library.name);
     for item in edited.filter_map(|trial| library.sources.at(&trial.item)) {
         if item.kind == Kind::Constant {
@@ -163,7 +167,7 @@ impl<'a> Function<'a> {
         } else {
             format!("{}_as_it_is", self.head.name)
         };
-        self.head.written(&name, &self.as_it_is())
+        self.head.written(&name, &counted(self.library, self.library.sources.body(self.item)))
     }
 
     /// Chooses by the edit that is on.
