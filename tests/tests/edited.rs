@@ -1,5 +1,5 @@
-//! Calls of public functions as no face makes them, so that their edits are tried on these too; with
-//! the feature `edited`. The programs alone call `put_line`, `ballots` and `judge_as_drawn`.
+//! Calls of public functions as no face makes them, so that their edits are tried on these too;
+//! with the feature `edited`. The programs alone call `put_line`, `ballots` and `judge_as_drawn`.
 
 use paddockyear_tests::boards::samples::files;
 use paddockyear_tests::edited::protocol::Verdict;

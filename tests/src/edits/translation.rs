@@ -206,7 +206,10 @@ impl<'a> Function<'a> {
         let (first, last) = (own.first().unwrap_or(&0), own.last().unwrap_or(&0));
         let tried = if self.guarded.is_empty() { String::new() } else { head.trial(&self.guarded) };
         let arguments = head.arguments();
-        let chosen = format!("if ({first}..={last}).contains(&active()) {{\nreturn {name}_chosen({arguments});\n}}\n");
+        let chosen = format!(
+            "if ({first}..={last}).contains(&active()) {{\n\
+             return {name}_chosen({arguments});\n}}\n"
+        );
         let chosen = if *last == 0 { String::new() } else { chosen };
         all + &head.written(name, &format!("{tried}{chosen}plain::{name}_as_it_is({arguments})\n"))
     }
