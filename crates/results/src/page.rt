@@ -30,7 +30,8 @@ fn put_line(out: &mut [u8], at: usize, vote: u32, count: u32) -> usize
 // Writes a line for each of the first pairs of vote and count, and answers the next place.
 fn put_lines(values: &[u32], counts: &[u64], pairs: usize, out: &mut [u8], at: usize) -> usize
     requires { ⌜ LinesReady (now values) (now counts) pairs (length (now out)) at ⌝ }
-    ensures { λ r. ⌜ Went (before out) at (chunks (λ i. tallyLine (item (before values) i) (item (before counts) i)) pairs) (after out) r ⌝ }
+    ensures { λ r. let lines = chunks (λ i. tallyLine (item (before values) i) (item (before counts) i)) pairs in
+        ⌜ Went (before out) at lines (after out) r ⌝ }
 {
     let mut next = at;
     let mut i: usize = 0;

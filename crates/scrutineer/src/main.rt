@@ -2,7 +2,7 @@
 ghost use mathlib.Core.Bool.{true};
 ghost use mathlib.Core.List.{[], _∷_, _++_};
 ghost use mathlib.Core.Path.{_≡_};
-ghost use Prim.Native.Nat.{_+_, _*_, _≤_};
+ghost use Prim.Native.Nat.{_≤_};
 ghost use lib.ListN.{length};
 ghost use Rattle.laws.specs.Lent.{before, after};
 ghost use Rattle.laws.specs.Writing.{Went};
@@ -37,14 +37,15 @@ fn put_refused(number: u32, out: &mut [u8]) -> usize
 // Writes the page of an accepted record, and answers its length.
 fn put_accepted(bytes: &[u8], out: &mut [u8]) -> usize
     requires { ⌜ (firstFault true (now bytes) ≡ Found.Nothing) × (pageMost ≤ length (now out)) ⌝ }
-    ensures { λ r. ⌜ Went (before out) 0 ((definitions.acceptedWord ++ (10 ∷ [])) ++ definitions.tallyLines (definitions.announcedVotes (before bytes))) (after out) r ⌝ }
+    ensures { λ r. let lines = definitions.tallyLines (definitions.announcedVotes (before bytes)) in
+        ⌜ Went (before out) 0 ((definitions.acceptedWord ++ (10 ∷ [])) ++ lines) (after out) r ⌝ }
 {
     let at = wire::copy(out, 0, b"ACCEPTED\n");
     results::page::put_result(bytes, out, at)
 }
 
 // Writes the page of what was read, and answers its length. What lies behind it is unchanged.
-fn put_page(bytes: &[u8], out: &mut [u8; LONGEST_PAGE]) -> usize
+pub fn put_page(bytes: &[u8], out: &mut [u8; LONGEST_PAGE]) -> usize
     ensures output { λ _. ⌜ after out ≡ definitions.inFront (definitions.page (before bytes)) (before out) ⌝ }
     ensures answer { λ r. ⌜ r ≡ length (definitions.page (before bytes)) ⌝ }
 {
@@ -57,7 +58,7 @@ fn put_page(bytes: &[u8], out: &mut [u8; LONGEST_PAGE]) -> usize
     }
 }
 
-// ---- what is read
+// ---- what is read and written
 
 // So many bytes, or a standard input that cannot be read.
 enum Input {
@@ -91,18 +92,21 @@ fn buffer() -> [u8; LONGEST_RECORD + 1]
     [0; LONGEST_RECORD + 1]
 }
 
+// Room for a page.
 fn blank_page() -> [u8; LONGEST_PAGE]
     ensures { λ r. ⌜ pageMost ≡ length r ⌝ }
 {
     [0; LONGEST_PAGE]
 }
 
+// Prints the page of what was read.
 fn print_page(bytes: &[u8]) {
     let mut page = blank_page();
     let n = put_page(bytes, &mut page);
     io::write_all(STDOUT_FILENO, &page[..n]);
 }
 
+// A standard input that cannot be read gets no verdict.
 fn main() {
     let mut record = buffer();
     match read_input(&mut record) {

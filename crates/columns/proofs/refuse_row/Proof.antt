@@ -1,4 +1,4 @@
--- `mixnet::refuse_row` meets its contract, one test after the other.
+-- `columns::refuse_row` meets its contract, one test after the other.
 use mathlib.Core.Path.{_≡_, refl, sym}
 use mathlib.Core.Bool.{true}
 use native.Mathlib.Omega.{arith}
@@ -8,9 +8,9 @@ use Rattle.laws.specs.Tests.{equal, _and_, and-iff, and-stop, and-go, is-equal,
 use Rattle.laws.specs.Faults.{rule-go, rule-stop}
 use Rattle.protocol.specs.Terms.{allBelow, modulusInLimits, ballotsInLimits}
 use Rattle.protocol.specs.Columns.{rowRefusal}
-use Rattle.inputs.proofs.Limits.{ballots-iff}
-use Rattle.mixnet.proofs.refuse_row.Statement.{statement}
-use Rattle.mixnet.proofs.refuse_row.Tie as tie
+use Rattle.limits.proofs.Limits.{ballots-iff}
+use Rattle.columns.proofs.refuse_row.Statement.{statement}
+use Rattle.columns.proofs.refuse_row.Tie as tie
 
 -- what is known behind tests 3, 18 and 10
 limits : (c : tie.Else2) → (modulusInLimits (c .before .before .before .before .before .before .before .args .modulus) and ballotsInLimits (c .before .before .before .before .before .before .before .args .n)) ≡ true

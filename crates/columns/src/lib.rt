@@ -1,12 +1,14 @@
 // The servers of one column: a row server's work, row three's offsets, and the split behind the third column. A row server is lent its
 // own row, its offsets and the permutation only.
+ghost use mathlib.Core.List.{[]};
 ghost use mathlib.Core.Path.{_≡_};
 ghost use Prim.Native.Nat.{_+_, _<_};
 ghost use lib.ListN.{length};
 ghost use Rattle.laws.specs.Lent.{before, after};
 ghost use Rattle.protocol.specs.Columns.{rowServer, thirdOffsets, secondHalves, rowRefusal, pairRefusal};
-ghost use Rattle.protocol.specs.Inputs.{writtenOf, afterwards};
-ghost use Rattle.mixnet.specs.Ready.{RowReady, PairReady};
+ghost use Rattle.protocol.specs.Answers.{writtenAnswer, answerOf};
+ghost use Rattle.protocol.specs.Inputs.{afterwards};
+ghost use Rattle.columns.specs.Ready.{RowReady, PairReady};
 use protocol::Written;
 
 // Adds the offsets to a row and takes place i from place perm(i).
@@ -31,8 +33,7 @@ fn third_row(modulus: u32, first: &[u32], second: &[u32], out: &mut [u32])
     let n = first.len();
     let mut i: usize = 0;
     while i < n {
-        let less = modular::minus(modulus, 0, first[i]);
-        out[i] = modular::minus(modulus, less, second[i]);
+        out[i] = modular::less_two(modulus, 0, first[i], second[i]);
         i += 1;
     }
 }
@@ -53,7 +54,7 @@ fn split_row(modulus: u32, numbers: &[u32], first_halves: &[u32], out: &mut [u32
 // What a row server refuses, by number.
 fn refuse_row(
     modulus: u32,
-    n: u32,
+    n: usize,
     numbers: &[u32],
     offsets: &[u32],
     permutation: &[u16],
@@ -61,61 +62,59 @@ fn refuse_row(
 ) -> u32
     ensures { λ r. ⌜ r ≡ rowRefusal modulus n (before numbers) (before offsets) (before permutation) «out_len» ⌝ }
 {
-    if !inputs::modulus_in_limits(modulus) {
+    if !limits::modulus_in_limits(modulus) {
         return 3;
     }
-    if !inputs::ballots_in_limits(n) {
+    if !limits::ballots_in_limits(n) {
         return 3;
     }
-    let due = n as usize;
-    if numbers.len() != due {
+    if numbers.len() != n {
         return 18;
     }
-    if offsets.len() != due {
+    if offsets.len() != n {
         return 18;
     }
-    if permutation.len() != due {
+    if permutation.len() != n {
         return 18;
     }
-    if out_len != due {
+    if out_len != n {
         return 18;
     }
-    if !inputs::all_below(modulus, numbers) {
+    if !limits::all_below(modulus, numbers) {
         return 10;
     }
-    if !inputs::all_below(modulus, offsets) {
+    if !limits::all_below(modulus, offsets) {
         return 10;
     }
-    if !inputs::is_permutation(due, permutation) {
+    if !limits::is_permutation(n, permutation) {
         return 19;
     }
     0
 }
 
 // What the other two refuse, by number.
-fn refuse_pair(modulus: u32, n: u32, first: &[u32], second: &[u32], out_len: usize) -> u32
+fn refuse_pair(modulus: u32, n: usize, first: &[u32], second: &[u32], out_len: usize) -> u32
     ensures { λ r. ⌜ r ≡ pairRefusal modulus n (before first) (before second) «out_len» ⌝ }
 {
-    if !inputs::modulus_in_limits(modulus) {
+    if !limits::modulus_in_limits(modulus) {
         return 3;
     }
-    if !inputs::ballots_in_limits(n) {
+    if !limits::ballots_in_limits(n) {
         return 3;
     }
-    let due = n as usize;
-    if first.len() != due {
+    if first.len() != n {
         return 18;
     }
-    if second.len() != due {
+    if second.len() != n {
         return 18;
     }
-    if out_len != due {
+    if out_len != n {
         return 18;
     }
-    if !inputs::all_below(modulus, first) {
+    if !limits::all_below(modulus, first) {
         return 10;
     }
-    if !inputs::all_below(modulus, second) {
+    if !limits::all_below(modulus, second) {
         return 10;
     }
     0
@@ -130,10 +129,19 @@ pub fn row_server(
     permutation: &[u16],
     out: &mut [u32],
 ) -> Written
-    ensures answer { λ r. ⌜ r ≡ writtenOf (rowRefusal modulus n (before numbers) (before offsets) (before permutation) (length (before out))) ⌝ }
-    ensures output { λ _. ⌜ after out ≡ afterwards (rowRefusal modulus n (before numbers) (before offsets) (before permutation) (length (before out))) (before out) (rowServer modulus (before numbers) (before offsets) (before permutation)) ⌝ }
+    ensures { λ r.
+        let k = rowRefusal modulus n (before numbers) (before offsets) (before permutation) (length (before out)) in
+        let mixed = rowServer modulus (before numbers) (before offsets) (before permutation) in
+        ⌜ (writtenAnswer r ≡ answerOf k []) × (after out ≡ afterwards k (before out) mixed) ⌝ }
 {
-    let k = refuse_row(modulus, n, numbers, offsets, permutation, out.len());
+    let k = refuse_row(
+        modulus,
+        n as usize,
+        numbers,
+        offsets,
+        permutation,
+        out.len(),
+    );
     if k != 0 {
         return Written::Refused(k);
     }
@@ -149,10 +157,12 @@ pub fn third_row_offsets(
     second: &[u32],
     out: &mut [u32],
 ) -> Written
-    ensures answer { λ r. ⌜ r ≡ writtenOf (pairRefusal modulus n (before first) (before second) (length (before out))) ⌝ }
-    ensures output { λ _. ⌜ after out ≡ afterwards (pairRefusal modulus n (before first) (before second) (length (before out))) (before out) (thirdOffsets modulus (before first) (before second)) ⌝ }
+    ensures { λ r.
+        let k = pairRefusal modulus n (before first) (before second) (length (before out)) in
+        let offsets = thirdOffsets modulus (before first) (before second) in
+        ⌜ (writtenAnswer r ≡ answerOf k []) × (after out ≡ afterwards k (before out) offsets) ⌝ }
 {
-    let k = refuse_pair(modulus, n, first, second, out.len());
+    let k = refuse_pair(modulus, n as usize, first, second, out.len());
     if k != 0 {
         return Written::Refused(k);
     }
@@ -168,10 +178,12 @@ pub fn split(
     first_halves: &[u32],
     out: &mut [u32],
 ) -> Written
-    ensures answer { λ r. ⌜ r ≡ writtenOf (pairRefusal modulus n (before numbers) (before «first_halves») (length (before out))) ⌝ }
-    ensures output { λ _. ⌜ after out ≡ afterwards (pairRefusal modulus n (before numbers) (before «first_halves») (length (before out))) (before out) (secondHalves modulus (before numbers) (before «first_halves»)) ⌝ }
+    ensures { λ r.
+        let k = pairRefusal modulus n (before numbers) (before «first_halves») (length (before out)) in
+        let halves = secondHalves modulus (before numbers) (before «first_halves») in
+        ⌜ (writtenAnswer r ≡ answerOf k []) × (after out ≡ afterwards k (before out) halves) ⌝ }
 {
-    let k = refuse_pair(modulus, n, numbers, first_halves, out.len());
+    let k = refuse_pair(modulus, n as usize, numbers, first_halves, out.len());
     if k != 0 {
         return Written::Refused(k);
     }

@@ -9,8 +9,8 @@ use Rattle.laws.specs.Bytes.{Below}
 use Rattle.protocol.specs.Terms.{item}
 use Rattle.protocol.specs.Columns.{rowRefusal, pairRefusal}
 use Rattle.protocol.proofs.Unrefused.{all-below-iff, permutation-iff}
-use Rattle.inputs.proofs.Limits.{modulus-iff, ballots-iff}
-use Rattle.mixnet.specs.Ready.{RowReady, PairReady}
+use Rattle.limits.proofs.Limits.{modulus-iff, ballots-iff}
+use Rattle.columns.specs.Ready.{RowReady, PairReady}
 
 ruleset tests = (rules, modulus-iff, ballots-iff, all-below-iff, permutation-iff)
 

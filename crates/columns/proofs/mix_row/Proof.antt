@@ -1,12 +1,12 @@
--- `mixnet::mix_row` meets its contract: the first i places are written.
+-- `columns::mix_row` meets its contract: the first i places are written.
 use Prim.Native.Nat.{_-_, _≤_, _<_}
 use native.Mathlib.Omega.{arith}
 use lib.ListN.{length}
 use Rattle.laws.specs.Tables.{Filled, none-filled, one-filled, all-filled}
 use Rattle.protocol.specs.Terms.{item}
 use Rattle.protocol.specs.Columns.{row, rowServer}
-use Rattle.mixnet.proofs.mix_row.Statement.{statement}
-use Rattle.mixnet.proofs.mix_row.Tie as tie
+use Rattle.columns.proofs.mix_row.Statement.{statement}
+use Rattle.columns.proofs.mix_row.Tie as tie
 
 abbrev Inv-loop : tie.InvT-loop
 Inv-loop modulus numbers offsets permutation out₀ n i₀ out i = (i ≤ n) × Filled (row modulus (item offsets) (item permutation) (item numbers)) i out₀ out

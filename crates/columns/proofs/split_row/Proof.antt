@@ -1,12 +1,12 @@
--- `mixnet::split_row` meets its contract: the first i places are written.
+-- `columns::split_row` meets its contract: the first i places are written.
 use Prim.Native.Nat.{_-_, _≤_}
 use native.Mathlib.Omega.{arith}
 use Rattle.laws.specs.Tables.{Filled, none-filled, one-filled, all-filled}
 use Rattle.protocol.specs.Terms.{item}
 use Rattle.laws.specs.Modular.{minus}
 use Rattle.protocol.specs.Columns.{secondHalves}
-use Rattle.mixnet.proofs.split_row.Statement.{statement}
-use Rattle.mixnet.proofs.split_row.Tie as tie
+use Rattle.columns.proofs.split_row.Statement.{statement}
+use Rattle.columns.proofs.split_row.Tie as tie
 
 abbrev Inv-loop : tie.InvT-loop
 Inv-loop modulus numbers first-halves out₀ n i₀ out i = (i ≤ n) × Filled (λ j. minus modulus (item numbers j) (item first-halves j)) i out₀ out

@@ -1,4 +1,4 @@
--- `mixnet::refuse_pair` meets its contract, one test after the other.
+-- `columns::refuse_pair` meets its contract, one test after the other.
 use mathlib.Core.Path.{_≡_, refl, sym}
 use mathlib.Core.Bool.{true}
 use native.Mathlib.Omega.{arith}
@@ -8,8 +8,8 @@ use Rattle.laws.specs.Tests.{equal, _and_, and-iff, and-stop, and-go, is-equal,
 use Rattle.laws.specs.Faults.{rule-go, rule-stop}
 use Rattle.protocol.specs.Terms.{modulusInLimits, ballotsInLimits}
 use Rattle.protocol.specs.Columns.{pairRefusal}
-use Rattle.mixnet.proofs.refuse_pair.Statement.{statement}
-use Rattle.mixnet.proofs.refuse_pair.Tie as tie
+use Rattle.columns.proofs.refuse_pair.Statement.{statement}
+use Rattle.columns.proofs.refuse_pair.Tie as tie
 
 -- what is known behind tests 3, 18
 limits : (c : tie.Else2) → (modulusInLimits (c .before .before .before .before .before .before .args .modulus) and ballotsInLimits (c .before .before .before .before .before .before .args .n)) ≡ true
