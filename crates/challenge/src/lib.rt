@@ -62,7 +62,7 @@ pub fn text_of(dice: &[u8], one: &[u8], two: &[u8]) -> [u8; 86]
 }
 
 // The hash of a number in decimal, Q and a last character.
-fn draw_hash(i: u32, q: &[u8; 86], last: u8, out: &mut [u8; 28])
+fn draw_hash(i: u32, q: &[u8], last: u8, out: &mut [u8; 28])
     ensures { λ _. ⌜ after out ≡ drawHash i (before q) last ⌝ }
 {
     let mut number = [0u8; 10];
@@ -75,7 +75,7 @@ fn draw_hash(i: u32, q: &[u8; 86], last: u8, out: &mut [u8; 28])
 }
 
 // 1 where list i is chosen, the first of so many lists of which some are left to choose, and else 0.
-fn list_chosen(q: &[u8; 86], i: u32, lists: u32, left: u32) -> u32
+fn list_chosen(q: &[u8], i: u32, lists: u32, left: u32) -> u32
     requires { ⌜ 0 < lists ⌝ }
     ensures { λ r. ⌜ (r ≡ oneIf (below (listHash (before q) i % lists) left)) × ((r < 2) × (r ≤ left)) ⌝ }
 {
@@ -89,7 +89,7 @@ fn list_chosen(q: &[u8; 86], i: u32, lists: u32, left: u32) -> u32
 }
 
 // The mask drawn from the first Q: so many lists are compared, of twice as many.
-pub fn drawn_mask(q: &[u8; 86], compared: usize) -> u32
+pub fn drawn_mask(q: &[u8], compared: usize) -> u32
     requires { ⌜ compared ≤ 12 ⌝ }
     ensures { λ r. ⌜ (r ≡ drawnMask compared (before q)) × (r < 16777216) ⌝ }
 {
@@ -107,7 +107,7 @@ pub fn drawn_mask(q: &[u8; 86], compared: usize) -> u32
 }
 
 // The side of a ballot drawn from the second Q.
-pub fn drawn_side(q: &[u8; 86], ballot: usize) -> u32
+pub fn drawn_side(q: &[u8], ballot: usize) -> u32
     requires { ⌜ ballot < 4096 ⌝ }
     ensures { λ r. ⌜ (r ≡ drawnSide (before q) ballot) × (r < 2) ⌝ }
 {

@@ -2,7 +2,7 @@
 use mathlib.Core.Path.{_≡_, refl, sym, ap, _∙_}
 use mathlib.Core.Bool.{Bool, true, false}
 use mathlib.Core.Logic.{_↔_, _≢_, _⊎_, inl, inr}
-use Prim.Native.Nat.{ℕ, zero, suc, _+_, _<_}
+use Prim.Native.Nat.{ℕ, zero, suc, _+_, _≤_, _<_}
 use native.Mathlib.Nat.{not-suc-le-zero, le-refl, eq-or-lt-of-le, le-of-suc-le-suc}
 use native.Mathlib.Numerals.{add-one}
 use native.Mathlib.Omega.{arith}
@@ -129,6 +129,29 @@ first-stop f (suc n) i l z ne = go (eq-or-lt-of-le (le-of-suc-le-suc l)) (λ k. 
     go : (i ≡ n) ⊎ (i < n) → (i < n → f i ≡ first f n) → f i ≡ first f n then f n
     go (inl e) ih = ap f e ∙ sym (then-go (first f n) (f n) (rw e at z))
     go (inr k) ih = ih k ∙ sym (then-stop (first f n) (f n) (λ q. ne (ih k ∙ q)))
+
+-- what a search that was asked for has found
+pub passed-as : {g f h : Found} → g ≡ f → g ≡ h → f ≡ h
+passed-as e w = sym e ∙ w
+
+-- a row of searches
+module _ (f : ℕ → Found) where
+  pub row-start : first f 0 ≡ Nothing
+  unfolding first
+  row-start = refl
+
+  pub row-stop : (n j : ℕ) {g : Found} {k at : ℕ} → j < n → first f j ≡ Nothing → g ≡ f j → g ≡ Fault k at → g ≡ first f n
+  row-stop n j l z e w = e ∙ first-stop f n j l z (λ q. nothing-fault q (sym e ∙ w))
+
+  pub row-end : (n j : ℕ) → j ≤ n → n ≤ j → first f j ≡ Nothing → Nothing ≡ first f n
+  row-end n j l h z = let e : j ≡ n = omega arith in sym (rw e at z)
+
+-- one search behind another
+pub then-fault : (a b : Found) {g : Found} {k at : ℕ} → g ≡ a → g ≡ Fault k at → g ≡ a then b
+then-fault a b e w = e ∙ sym (then-stop a b (λ q. nothing-fault q (sym e ∙ w)))
+
+pub then-rest : (a b : Found) {g : Found} → a ≡ Nothing → g ≡ b → g ≡ a then b
+then-rest a b z e = e ∙ sym (then-go a b z)
 
 -- ---- the number that is found
 

@@ -1,13 +1,13 @@
 -- Masks: bits, ranks, and two masks with as many ones: where they differ, some bit is set in the first alone.
-use mathlib.Core.Path.{_≡_, refl, sym, ap, _∙_}
+use mathlib.Core.Path.{_≡_, refl, sym, ap, ap₂, _∙_}
 use mathlib.Core.Logic.{_↔_, _≢_}
 use Prim.Native.Nat.{ℕ, zero, suc, _+_, _-_, _*_, _/_, _%_, _^_, _≤_, _<_}
-use native.Mathlib.Nat.{div-one}
-use native.Mathlib.Numerals.{one-add}
+use native.Mathlib.Nat.{div-one, mod-one}
+use native.Mathlib.Numerals.{add-one, one-add}
 use native.Mathlib.Decide.{ℕ-discrete, decLe}
 use native.Mathlib.Omega.{arith}
 use lib.Arith.{lt-one}
-use lib.Pow.{shr-shr, pow-pos}
+use lib.Pow.{shr-shr, pow-pos, mod-pow-add}
 use lib.Count.{ones, ones-step}
 use Rattle.laws.specs.Sums.{sum}
 
@@ -85,6 +85,24 @@ bit-small mask i = omega arith
 pub set-clear : (mask l : ℕ) → setBefore mask l + clearBefore mask l ≡ l
 set-clear mask zero = refl
 set-clear mask (suc l) = omega (arith, set-clear mask l, bit-small mask l)
+
+-- the ones below bit l, counted at once
+pub low-ones : (l mask : ℕ) → ones (mask % 2 ^ l) ≡ setBefore mask l
+unfolding ones
+low-ones zero mask = ap ones (mod-one mask)
+low-ones (suc l) mask =
+    let x = mask % 2 ^ suc l in
+    let e : x ≡ (mask / 2 % 2 ^ l) * 2 + mask % 2 = ap (λ (k : ℕ). mask % 2 ^ k) (sym (add-one l)) ∙ mod-pow-add mask l 1 in
+    let low : x % 2 ≡ mask % 2 = omega (arith, e) in
+    let high : x / 2 ≡ mask / 2 % 2 ^ l = omega (arith, e) in
+    ones-step x ∙ ap₂ (λ (a b : ℕ). a + b) low (ap ones high ∙ low-ones l (mask / 2)) ∙ sym (set-half mask l)
+
+-- a bit is one of two
+pub bit-set : (mask l : ℕ) → bit mask l ≢ 0 → bit mask l ≡ 1
+bit-set mask l h = omega (arith, bit-small mask l)
+
+pub bit-clear : (mask l : ℕ) → bit mask l ≢ 1 → bit mask l ≡ 0
+bit-clear mask l h = omega (arith, bit-small mask l)
 
 -- no bit at k or above is set
 pub bits-below : (k mask : ℕ) → mask < 2 ^ k → (i : ℕ) → k ≤ i → bit mask i ≡ 0

@@ -1,11 +1,13 @@
-// The parameters, and where each command of a record stands, worked out from them as document 01 lays the record out.
+// What places depend on, the parameters and the mask, and where each command of a record stands, worked out from them as document 01 lays
+// the record out.
 ghost use mathlib.Core.Path.{_≡_};
-ghost use Prim.Native.Nat.{_+_, _*_, _≤_, _<_};
+ghost use Prim.Native.Nat.{_+_, _-_, _*_, _≤_, _<_};
 ghost use lib.ListN.{length};
 ghost use Rattle.laws.specs.Lent.{before};
+ghost use Rattle.laws.specs.Masks.{setBefore, clearBefore};
 ghost use Rattle.protocol.specs.Terms.{mostBallots};
 ghost use Rattle.protocol.specs.Layout as places;
-ghost use Rattle.protocol.specs.Record.{parametersOf};
+ghost use Rattle.protocol.specs.Record.{parametersOf, maskOf};
 ghost use Rattle.layout.specs.Bounds.{Few};
 use protocol::Parameters;
 
@@ -19,6 +21,13 @@ pub fn parameters(bytes: &[u8]) -> Parameters
         ballots: wire::read2(bytes, 5) as usize,
         compared: wire::read1(bytes, 7) as usize,
     }
+}
+
+// The first command's width.
+pub fn first_width(p: Parameters) -> usize
+    ensures { λ r. ⌜ r ≡ places.firstWidth p ⌝ }
+{
+    8
 }
 
 // How many lists there are.
@@ -41,14 +50,14 @@ pub fn at_ballot(p: Parameters, j: usize) -> usize
     requires { ⌜ j ≤ mostBallots ⌝ }
     ensures { λ r. ⌜ (r ≡ places.atBallot p j) × (r < 33554432) ⌝ }
 {
-    8 + 197 * j
+    first_width(p) + 197 * j
 }
 
 pub fn at_entry(p: Parameters, l: usize, i: usize) -> usize
     requires { ⌜ Few p × ((l ≤ 24) × (i ≤ mostBallots)) ⌝ }
     ensures { λ r. ⌜ (r ≡ places.atEntry p l i) × (r < 33554432) ⌝ }
 {
-    8 + 197 * p.ballots + 196 * flat_index(p, l, i)
+    first_width(p) + 197 * p.ballots + 196 * flat_index(p, l, i)
 }
 
 pub fn at_first_dice(p: Parameters) -> usize
@@ -56,6 +65,22 @@ pub fn at_first_dice(p: Parameters) -> usize
     ensures { λ r. ⌜ (r ≡ places.atFirstDice p) × (r < 33554432) ⌝ }
 {
     at_entry(p, 2 * p.compared, 0)
+}
+
+// The mask, as it is posted.
+pub fn mask(p: Parameters, bytes: &[u8]) -> u32
+    requires { ⌜ Few p × (places.atFirstDice p + 35 ≤ length (now bytes)) ⌝ }
+    ensures { λ r. ⌜ r ≡ maskOf p (before bytes) ⌝ }
+{
+    wire::read4(bytes, at_first_dice(p) + 31)
+}
+
+// How many compared lists come before list l; all others before it are opened.
+pub fn rank(mask: u32, l: usize) -> usize
+    requires { ⌜ l ≤ 24 ⌝ }
+    ensures { λ r. ⌜ (r ≡ setBefore mask l) × (l - r ≡ clearBefore mask l) × (r ≤ l) ⌝ }
+{
+    u32::count_ones(mask % (1 << (l as u32))) as usize
 }
 
 // c compared lists come before.

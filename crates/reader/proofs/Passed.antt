@@ -12,9 +12,10 @@ use contract.Lifetimes.{Lfts}
 use types.Kit.{Given, ‵, _$_, _∵_, !, qed, move, fjoin, done}
 use denote.RattleType.{RattleType, owns}
 use denote.Laws.{Is}
-use denote.Builtin.{u8, bool, Array, ArrayOf}
-use denote.Ref.{RefT, ShrRef, ptr-vals}
-use denote.Signature.{Slot, plain, namedLft}
+use denote.Builtin.{u8, bool}
+use denote.Ref.{RefT}
+use denote.Slice.{slice-vals, ShrSlice}
+use denote.Signature.{namedLft}
 use denote.Steps.{owned, nothing}
 use denote.Enum.Laws as EL
 use denote.Struct.Laws as LL
@@ -30,29 +31,16 @@ use Rattle.reader.proofs.Reader as T
 abbrev pub B : Lfts 3 → RattleType
 B κs = T.the-row (namedLft 3 0 tt κs)
 
--- the text and the row of marks, behind their references
-abbrev pub Text : RattleType
-Text = Array u8 tt 86
-
-abbrev pub Row : RattleType
-Row = Array bool tt 1024
-
-abbrev pub text-slot : Slot 3
-text-slot = ArrayOf (plain (λ _. u8)) (λ _. tt) 86
-
-abbrev pub row-slot : Slot 3
-row-slot = ArrayOf (plain (λ _. bool)) (λ _. tt) 1024
-
 module _ (κ₁ κ₂ : Lft) (g : Due) (c : Context) (t : RefT (List ℕ)) (x : RefT (List Bool)) where
   abbrev pub Behind : Fml
   Behind =
-      owns (S.the-row ∷ K.the-row ∷ ShrRef (named 1) κ₁ Text ∷ ShrRef (named 2) κ₂ Row ∷ []) (g, (c, (t, (x, tt))))
-      (EL.vals S.the-type S′.the-laws g, (LL.vals K.the-type K′.the-laws c, (ptr-vals t, (ptr-vals x, tt))))
+      owns (S.the-row ∷ K.the-row ∷ ShrSlice (named 1) κ₁ u8 ∷ ShrSlice (named 2) κ₂ bool ∷ []) (g, (c, (t, (x, tt))))
+      (EL.vals S.the-type S′.the-laws g, (LL.vals K.the-type K′.the-laws c, (slice-vals t, (slice-vals x, tt))))
 
   -- what the enum and the context own is made anew
   pub behind : {M : Type 1} (𝓤 : URA M) (H : Heap 𝓤) (A : Atoms 𝓤) (W : Given 𝓤 H A) → Is S.the-row g (EL.vals S.the-type S′.the-laws g) → Is K.the-row c (LL.vals K.the-type K′.the-laws c)
-      → ent 𝓤 (sep 𝓤 (sem 𝓤 H A (ShrRef (named 1) κ₁ Text .own t (ptr-vals t))) (sem 𝓤 H A (ShrRef (named 2) κ₂ Row .own x (ptr-vals x)))) (sem 𝓤 H A Behind)
+      → ent 𝓤 (sep 𝓤 (sem 𝓤 H A (ShrSlice (named 1) κ₁ u8 .own t (slice-vals t))) (sem 𝓤 H A (ShrSlice (named 2) κ₂ bool .own x (slice-vals x)))) (sem 𝓤 H A Behind)
   behind 𝓤 H A W is isc =
-      qed W (‵ (ShrRef (named 1) κ₁ Text .own t (ptr-vals t)) ∷ ‵ (ShrRef (named 2) κ₂ Row .own x (ptr-vals x)) ∷ []) ∵
+      qed W (‵ (ShrSlice (named 1) κ₁ u8 .own t (slice-vals t)) ∷ ‵ (ShrSlice (named 2) κ₂ bool .own x (slice-vals x)) ∷ []) ∵
       nothing ! $ move ! (2 ∷ 0 ∷ []) $ fjoin ! $ move ! (1 ∷ 0 ∷ []) $ fjoin ! $ owned ! K.the-row (Is K.the-row) (LL.makes K.the-type K′.the-plain 𝓤 H A) c _ isc $ fjoin ! $
       owned ! S.the-row (Is S.the-row) (EL.makes S.the-type S′.the-plain 𝓤 H A) g _ is $ fjoin ! $ done !

@@ -1,32 +1,24 @@
 // The command reader: each command byte leads to its own rule, and every byte not due is refused.
 ghost use mathlib.Core.Path.{_≡_};
+ghost use mathlib.Core.List.{[]};
 ghost use Rattle.laws.specs.Lent.{before};
-ghost use Rattle.protocol.specs.Rules.{placeOf, fault};
+ghost use Rattle.protocol.specs.Rules.{fault};
 ghost use Rattle.protocol.specs.Judging.{found};
-ghost use Rattle.reader.specs.Ready.{Ready};
+ghost use Rattle.rules.specs.Known.{Told};
 use laws::Found;
 use protocol::Due;
 use protocol::Parameters;
 
-// What a command is judged by beside the record: the parameters, whether mask and sides are to be the drawn ones, and how many compared
-// lists come before that of a list half, `rank`, which no other command looks at.
+// What a command is judged by beside the record: the parameters, and whether mask and sides are to be the drawn ones.
 struct Context {
     parameters: Parameters,
     drawn: bool,
-    rank: usize,
 }
 
 // The number of the first rule that the due command at a place breaks, or 0: no byte left 1, byte not due 2, cut short 1, then its rules.
-// `text` is what mask or sides are drawn from, `marks` tells the taken positions of a link's list.
-fn command(
-    bytes: &[u8],
-    at: usize,
-    due: Due,
-    c: Context,
-    text: &[u8; 86],
-    marks: &[bool; 1024],
-) -> u32
-    requires { ⌜ (at ≡ placeOf (c .parameters) (now bytes) due) × Ready (c .parameters) (now bytes) (c .drawn) (c .rank) (now text) (now marks) due ⌝ }
+// `text` is what mask or sides are drawn from, `marks` tells the taken positions of a link's list; a command that has none lends nothing.
+fn command(bytes: &[u8], at: usize, due: Due, c: Context, text: &[u8], marks: &[bool]) -> u32
+    requires { ⌜ Told (c .parameters) (now bytes) (c .drawn) (now text) (now marks) at due ⌝ }
     ensures { λ k. ⌜ k ≡ fault (c .parameters) (before bytes) (c .drawn) due ⌝ }
 {
     if bytes.len() <= at {
@@ -38,7 +30,7 @@ fn command(
     match b {
         0x01 => match due {
             Due::First => {
-                if left < 8 {
+                if left < layout::first_width(p) {
                     return 1;
                 }
                 rules::first_rules(bytes)
@@ -95,7 +87,7 @@ fn command(
                 if left < 112 {
                     return 1;
                 }
-                openings::ballot_half_rules(p, bytes, at, j, c.drawn, text)
+                opening_rules::ballot_half_rules(p, bytes, at, j, c.drawn, text)
             }
             _ => 2,
         },
@@ -104,7 +96,7 @@ fn command(
                 if left < 112 {
                     return 1;
                 }
-                openings::list_half_rules(p, bytes, at, l, j, c.rank)
+                opening_rules::list_half_rules(p, bytes, at, l, j)
             }
             _ => 2,
         },
@@ -122,7 +114,7 @@ fn command(
                 if left < 220 {
                     return 1;
                 }
-                openings::full_rules(p, bytes, at, l, i)
+                opening_rules::full_rules(p, bytes, at, l, i)
             }
             _ => 2,
         },
@@ -141,50 +133,83 @@ struct Reader<'a> {
 }
 
 // The due command at the reader's place.
-fn read<'a, 'b, 'c>(
-    r: Reader<'a>,
-    due: Due,
-    c: Context,
-    text: &'b [u8; 86],
-    marks: &'c [bool; 1024],
-) -> u32
-    requires { ⌜ (r .at ≡ placeOf (c .parameters) (now (r .bytes)) due) × Ready (c .parameters) (now (r .bytes)) (c .drawn) (c .rank) (now text) (now marks) due ⌝ }
+fn read<'a, 'b, 'c>(r: Reader<'a>, due: Due, c: Context, text: &'b [u8], marks: &'c [bool]) -> u32
+    requires { ⌜ Told (c .parameters) (now (r .bytes)) (c .drawn) (now text) (now marks) (r .at) due ⌝ }
     ensures { λ k. ⌜ k ≡ fault (c .parameters) (now (r .entry .bytes)) (c .drawn) due ⌝ }
 {
     command(r.bytes, r.at, due, c, text, marks)
 }
 
 // One command through the reader. Its parameters are plain, so whoever calls it needs nothing of the reader's.
-fn step(bytes: &[u8], at: usize, due: Due, c: Context, text: &[u8; 86], marks: &[bool; 1024]) -> u32
-    requires { ⌜ (at ≡ placeOf (c .parameters) (now bytes) due) × Ready (c .parameters) (now bytes) (c .drawn) (c .rank) (now text) (now marks) due ⌝ }
+fn step(bytes: &[u8], at: usize, due: Due, c: Context, text: &[u8], marks: &[bool]) -> u32
+    requires { ⌜ Told (c .parameters) (now bytes) (c .drawn) (now text) (now marks) at due ⌝ }
     ensures { λ k. ⌜ k ≡ fault (c .parameters) (before bytes) (c .drawn) due ⌝ }
 {
     read(Reader { bytes, at }, due, c, text, marks)
 }
 
 // What is found of the due command at a place: the number of the first rule that it breaks with the place where the command starts, or
-// nothing. `rank` is looked at for a list half only.
-pub fn command_fault(
-    bytes: &[u8],
-    at: usize,
-    due: Due,
-    p: Parameters,
-    drawn: bool,
-    rank: usize,
-    text: &[u8; 86],
-    marks: &[bool; 1024],
-) -> Found
-    requires { ⌜ (at ≡ placeOf p (now bytes) due) × Ready p (now bytes) drawn rank (now text) (now marks) due ⌝ }
-    ensures { λ r. ⌜ r ≡ found drawn p (before bytes) due ⌝ }
+// nothing.
+fn found_at(bytes: &[u8], at: usize, due: Due, c: Context, text: &[u8], marks: &[bool]) -> Found
+    requires { ⌜ Told (c .parameters) (now bytes) (c .drawn) (now text) (now marks) at due ⌝ }
+    ensures { λ r. ⌜ r ≡ found (c .drawn) (c .parameters) (before bytes) due ⌝ }
 {
-    let c = Context {
-        parameters: p,
-        drawn,
-        rank,
-    };
     let k = step(bytes, at, due, c, text, marks);
     if k != 0 {
         return Found::Fault(k, at);
     }
     Found::Nothing
+}
+
+// .. of a command that has neither text nor marks.
+pub fn command_fault(bytes: &[u8], at: usize, due: Due, p: Parameters, drawn: bool) -> Found
+    requires { ⌜ Told p (now bytes) drawn [] [] at due ⌝ }
+    ensures { λ r. ⌜ r ≡ found drawn p (before bytes) due ⌝ }
+{
+    let none: [bool; 0] = [];
+    let c = Context {
+        parameters: p,
+        drawn,
+    };
+    found_at(bytes, at, due, c, &bytes[..0], &none)
+}
+
+// .. of a command whose mask or side may have to be drawn from a text.
+pub fn drawn_fault(
+    bytes: &[u8],
+    at: usize,
+    due: Due,
+    p: Parameters,
+    drawn: bool,
+    text: &[u8],
+) -> Found
+    requires { ⌜ Told p (now bytes) drawn (now text) [] at due ⌝ }
+    ensures { λ r. ⌜ r ≡ found drawn p (before bytes) due ⌝ }
+{
+    let none: [bool; 0] = [];
+    let c = Context {
+        parameters: p,
+        drawn,
+    };
+    found_at(bytes, at, due, c, text, &none)
+}
+
+// .. of a link, by its list's row of marks.
+pub fn link_fault(
+    bytes: &[u8],
+    at: usize,
+    l: usize,
+    j: usize,
+    p: Parameters,
+    drawn: bool,
+    marks: &[bool],
+) -> Found
+    requires { ⌜ Told p (now bytes) drawn [] (now marks) at (Due.Link l j) ⌝ }
+    ensures { λ r. ⌜ r ≡ found drawn p (before bytes) (Due.Link l j) ⌝ }
+{
+    let c = Context {
+        parameters: p,
+        drawn,
+    };
+    found_at(bytes, at, Due::Link(l, j), c, &bytes[..0], marks)
 }

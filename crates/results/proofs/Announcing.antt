@@ -25,15 +25,15 @@ use Rattle.protocol.proofs.Faultless.{accepted-nothing}
 module _ (r : List ℕ) where
   -- the votes as they are read, one behind the other
   pub votes-read : {p : Parameters} {at n : ℕ} → p ≡ parametersOf r → at ≡ atVote p 0 → n ≡ p .ballots
-      → tabulate (λ i. number r (at + 7 * i + 3) 4) n ≡ announcedVotes r
+      → tabulate (λ i. number r (at + 3 + 7 * i) 4) n ≡ announcedVotes r
   unfolding announcedVotes voteOf atVote
   votes-read {p} {at} {n} s a m =
       let q = parametersOf r in
       let b : n ≡ q .ballots = m ∙ ap (λ (x : Parameters). x .ballots) s in
       let c : at ≡ atVote q 0 = a ∙ ap (λ (x : Parameters). atVote x 0) s in
-      ap (tabulate (λ i. number r (at + 7 * i + 3) 4)) b
-      ∙ same-tabulate (λ i. number r (at + 7 * i + 3) 4) (voteOf q r) (q .ballots)
-      (λ i l. ap (λ (x : ℕ). number r x 4) (let z : at + 7 * i + 3 ≡ atVote q i + 3 = omega arith in z))
+      ap (tabulate (λ i. number r (at + 3 + 7 * i) 4)) b
+      ∙ same-tabulate (λ i. number r (at + 3 + 7 * i) 4) (voteOf q r) (q .ballots)
+      (λ i l. ap (λ (x : ℕ). number r x 4) (let z : at + 3 + 7 * i ≡ atVote q i + 3 = omega arith in z))
 
   module _ (out : List ℕ) where
     accepted-number : (n : ℕ) → firstFault false r ≡ Nothing → rule 18 (equal n (parametersOf r .ballots)) 0 ≡ announcedRefusal r n

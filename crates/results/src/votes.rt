@@ -18,7 +18,7 @@ pub(crate) fn read_votes(bytes: &[u8], p: Parameters, out: &mut [u32])
     requires { ⌜ VotesReady p (now bytes) (length (now out)) ⌝ }
     ensures { λ _. ⌜ after out ≡ announcedVotes (before bytes) ⌝ }
 {
-    openings::fill_votes(bytes, layout::at_vote(p, 0), out);
+    wire::fill_numbers(bytes, layout::at_vote(p, 0) + 3, 7, out);
 }
 
 // The announced votes of a record that is known to be accepted.

@@ -1,1 +1,1 @@
-pub mod Dice
+pub mod Known

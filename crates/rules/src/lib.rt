@@ -4,12 +4,10 @@ ghost use mathlib.Core.Path.{_≡_};
 ghost use Prim.Native.Nat.{_+_, _*_, _≤_, _<_};
 ghost use lib.ListN.{length};
 ghost use Rattle.laws.specs.Lent.{before};
-ghost use Rattle.laws.specs.Marks.{Marks};
-ghost use Rattle.protocol.specs.Terms.{mostBallots};
 ghost use Rattle.protocol.specs.Layout.{firstWidth, atBallot, atEntry, atSecondDice, atVote};
-ghost use Rattle.protocol.specs.Record.{parametersOf, linkPlace, positionOf};
+ghost use Rattle.protocol.specs.Record.{parametersOf};
 ghost use Rattle.protocol.specs.Rules.{firstRules, ballotRules, entryRules, firstDiceRules, linkRules, secondDiceRules, voteRules};
-ghost use Rattle.rules.specs.Dice.{FirstDiceReady};
+ghost use Rattle.rules.specs.Known.{FirstDiceReady, LinkReady};
 use protocol::Parameters;
 
 // 01: M, n and m in their limits, 3.
@@ -54,7 +52,7 @@ pub fn entry_rules(p: Parameters, bytes: &[u8], at: usize, l: usize, i: usize) -
 }
 
 // 04: dice, 6; the mask's shape, 7; as drawn, the drawn mask, 8. `text` is what the mask is drawn from.
-pub fn first_dice_rules(p: Parameters, bytes: &[u8], at: usize, drawn: bool, text: &[u8; 86]) -> u32
+pub fn first_dice_rules(p: Parameters, bytes: &[u8], at: usize, drawn: bool, text: &[u8]) -> u32
     requires { ⌜ FirstDiceReady p (now bytes) at drawn (now text) ⌝ }
     ensures { λ k. ⌜ k ≡ firstDiceRules p (before bytes) drawn ⌝ }
 {
@@ -75,15 +73,8 @@ pub fn first_dice_rules(p: Parameters, bytes: &[u8], at: usize, drawn: bool, tex
 
 // 05: list and ballot, 4; a position that is there and not taken, 9; t, 10. The marks tell which positions earlier links
 // took; the stage that reads the links sets them.
-pub fn link_rules(
-    p: Parameters,
-    bytes: &[u8],
-    at: usize,
-    l: usize,
-    j: usize,
-    marks: &[bool; 1024],
-) -> u32
-    requires { ⌜ (at ≡ linkPlace p (now bytes) l j) × ((at + 10 ≤ length (now bytes)) × ((p .ballots ≤ mostBallots) × Marks mostBallots (positionOf p (now bytes) l) j (now marks))) ⌝ }
+pub fn link_rules(p: Parameters, bytes: &[u8], at: usize, l: usize, j: usize, marks: &[bool]) -> u32
+    requires { ⌜ LinkReady p (now bytes) at l j (now marks) ⌝ }
     ensures { λ k. ⌜ k ≡ linkRules p (before bytes) l j ⌝ }
 {
     if wire::read1(bytes, at + 1) as usize != l {

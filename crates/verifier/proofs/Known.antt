@@ -1,30 +1,129 @@
--- What a part that has passed tells those behind it.
-use mathlib.Core.Path.{_≡_, sym, ap, _∙_}
-use mathlib.Core.Bool.{Bool}
+-- What a stage that has passed tells those behind it.
+use mathlib.Core.Path.{_≡_, refl, sym, ap, _∙_}
+use mathlib.Core.Bool.{Bool, true}
 use mathlib.Core.List.{List, _++_}
-use Prim.Native.Nat.{ℕ, zero, suc, _+_, _-_, _≤_}
+use Prim.Native.Nat.{ℕ, zero, suc, _+_, _-_, _*_, _^_, _≤_, _<_}
 use native.Mathlib.Nat.{le-trans, le-of-eq, zero-add}
 use native.Mathlib.Decide.{ℕ-discrete}
 use native.Mathlib.Omega.{arith}
+use lib.Count.{ones}
 use lib.ListN.{length, take}
 use Rattle.laws.specs.declared.Found.the-variants.{Nothing}
 use Rattle.laws.specs.Faults.{first, rules, then-nothing}
-use Rattle.laws.specs.Masks.{bit, setBefore, bit-small, set-ones}
+use Rattle.laws.specs.Masks.{bit, setBefore, bit-small, set-ones, set-rank}
 use Rattle.laws.specs.Chunks.{piece, piece-join}
 use Rattle.sha3.specs.declared.Sponge.{Sponge}
 use Rattle.sha3.specs.Sha3.{absorbBytes, empty}
 use Rattle.protocol.specs.declared.Parameters.{Parameters}
-use Rattle.protocol.specs.declared.Due.the-variants.{First, Entry, FirstDice, Link}
-use Rattle.protocol.specs.Layout.{lists, atEntry, atFirstDice, atLink, atSecondDice}
-use Rattle.protocol.specs.Record.{parametersOf, maskOf, linkPlace}
-use Rattle.protocol.specs.Rules.{fault}
-use Rattle.protocol.specs.Judging.{found, ifCompared, entryFaults, linkFaults, partOneFaults, partTwoFaults}
+use Rattle.protocol.specs.declared.Due.{Due}
+use Rattle.protocol.specs.declared.Due.the-variants.{First, Entry, FirstDice, Link, BallotHalf, Vote, FullOpening}
+use Rattle.protocol.specs.Terms.{opened}
+use Rattle.protocol.specs.Layout.{width, lists, atEntry, atFirstDice, atLink, atSecondDice}
+use Rattle.protocol.specs.Record.{parametersOf, maskOf, linkPlace, positionOf, shiftOf, sideOf, ballotOpeningOf, voteOf, fullOpeningOf}
+use Rattle.protocol.specs.Drawing.{challenge}
+use Rattle.protocol.specs.Rules.{numbersBelow, placeOf, rules as rulesOf, fault}
+use Rattle.protocol.specs.Judging.{found, ifCompared, entryFaults, linkFaults, voteFaults, partOneFaults, partTwoFaults}
 use Rattle.protocol.proofs.Lengths.{entry-next, entry-list-end, entries-end, first-dice-next, link-next, link-list-end, links-end}
-use Rattle.protocol.proofs.Tested.{fault-iff, first-tests}
+use Rattle.protocol.proofs.Tested.{fault-iff, first-tests, first-dice-tests, link-tests, ballot-half-tests, vote-tests, full-tests}
 use Rattle.challenge.specs.Text.{absorb-more}
-use Rattle.stages.proofs.Stages.{found-nothing}
-use Rattle.stages.proofs.Known.{stands-whole, mask-shape, links-stand}
-use Rattle.verifier.specs.Passed.{Started}
+use Rattle.layout.specs.Bounds.{Few}
+use Rattle.rules.specs.Known.{ListHalfKnown, FullKnown}
+use Rattle.verifier.specs.Passed.{Started, FirstDicePassed, HalfPassed, VotesPassed}
+use Rattle.verifier.proofs.Stages.{found-nothing}
+
+-- ---- commands that stand
+
+module _ (drawn : Bool) (p : Parameters) (r : List ℕ) where
+  -- a command that stands keeps its rules and ends inside of the record
+  pub stands-rules : (d : Due) → fault p r drawn d ≡ 0 → rulesOf p r drawn d ≡ 0
+  stands-rules d e = fault-iff drawn p r d .0 e .1 .1
+
+  pub stands-whole : (d : Due) → fault p r drawn d ≡ 0 → placeOf p r d + width p d ≤ length r
+  stands-whole d e = fault-iff drawn p r d .0 e .1 .0
+
+  -- ---- the mask
+
+  module _ (k : fault p r drawn FirstDice ≡ 0) where
+    pub mask-shape : (ones (maskOf p r) ≡ p .compared) × (maskOf p r < 2 ^ (2 * p .compared))
+    mask-shape = first-dice-tests drawn p r .0 (stands-rules FirstDice k) .1 .0
+
+    pub compared-rank : (l : ℕ) → l < lists p → bit (maskOf p r) l ≡ 1 → setBefore (maskOf p r) l < p .compared
+    compared-rank l ll b = set-rank (p .compared) (maskOf p r) l (mask-shape .0) (mask-shape .1) ll b
+
+  -- ---- links
+
+  pub links-stand : first (λ l. ifCompared p r l (linkFaults drawn p r l)) (lists p) ≡ Nothing
+      → (l : ℕ) → l < lists p → bit (maskOf p r) l ≡ 1 → (j : ℕ) → j < p .ballots → fault p r drawn (Link l j) ≡ 0
+  unfolding ifCompared linkFaults found
+  links-stand e l ll b j lj = let t = simp rules at e in t l ll (λ z. omega arith) j lj
+
+  pub link-position : (l j : ℕ) → fault p r drawn (Link l j) ≡ 0 → positionOf p r l j < p .ballots
+  link-position l j e = link-tests drawn p r l j .0 (stands-rules (Link l j) e) .1 .1 .0
+
+  pub link-shift : (l j : ℕ) → fault p r drawn (Link l j) ≡ 0 → shiftOf p r l j < p .modulus
+  link-shift l j e = link-tests drawn p r l j .0 (stands-rules (Link l j) e) .1 .1 .1 .1
+
+-- what a dice command's text is, by its place
+pub text-at : (r : List ℕ) {drawn : Bool} {prefix : Sponge} {text : List ℕ} {at a : ℕ} → at ≡ a
+    → (drawn ≡ true → at + 31 ≤ length r → prefix ≡ absorbBytes 144 empty (take at r) → text ≡ challenge (piece r (at + 1) 30) (take at r))
+    → drawn ≡ true → a + 31 ≤ length r → prefix ≡ absorbBytes 144 empty (take a r) → text ≡ challenge (piece r (a + 1) 30) (take a r)
+text-at r e h = rw e at h
+
+-- what the mask's reading asks
+pub mask-there : {drawn : Bool} {p : Parameters} {r : List ℕ} → FirstDicePassed drawn p r → Few p × (atFirstDice p + 35 ≤ length r)
+mask-there {drawn} {p} {r} h = (h .few, stands-whole drawn p r FirstDice (h .first-dice))
+
+-- ---- halves, votes and full openings
+
+module _ (drawn : Bool) (p : Parameters) (r : List ℕ) where
+  below-true : (openings : ℕ → List ℕ) (k : ℕ) → ((i : ℕ) → i < k → opened (openings i) < p .modulus) → numbersBelow (p .modulus) openings k ≡ true
+  unfolding numbersBelow
+  below-true openings k h = simp rules h
+
+  pub half-side : (j : ℕ) → fault p r drawn (BallotHalf j) ≡ 0 → sideOf p r j ≤ 1
+  half-side j e = ballot-half-tests drawn p r j .0 (stands-rules drawn p r (BallotHalf j) e) .1 .1 .0
+
+  pub half-numbers : (j : ℕ) → fault p r drawn (BallotHalf j) ≡ 0 → numbersBelow (p .modulus) (ballotOpeningOf p r j) 3 ≡ true
+  half-numbers j e = below-true (ballotOpeningOf p r j) 3 (ballot-half-tests drawn p r j .0 (stands-rules drawn p r (BallotHalf j) e) .1 .0)
+
+  pub votes-rise : voteFaults drawn p r (p .ballots) ≡ Nothing → (i : ℕ) → suc i < p .ballots → voteOf p r i ≤ voteOf p r (suc i)
+  unfolding voteFaults found
+  votes-rise e i h = let t = simp rules at e in vote-tests drawn p r (suc i) .0 (stands-rules drawn p r (Vote (suc i)) (t (suc i) h)) .1 .1 i refl
+
+  pub full-numbers : (l i : ℕ) → first (λ i. found drawn p r (FullOpening l i)) i ≡ Nothing
+      → (k : ℕ) → k < i → numbersBelow (p .modulus) (fullOpeningOf p r l k) 6 ≡ true
+  unfolding found
+  full-numbers l i e k h =
+      let t = simp rules at e in
+      below-true (fullOpeningOf p r l k) 6 (full-tests drawn p r l k .0 (stands-rules drawn p r (FullOpening l k) (t k h)) .1 .1 .0)
+
+-- ---- what the command reader is told
+
+pub half-known : {drawn : Bool} {p : Parameters} {r : List ℕ} {j l : ℕ} → HalfPassed drawn p r j → l < lists p → bit (maskOf p r) l ≡ 1 → ListHalfKnown p r l j
+half-known {drawn} {p} {r} {j} {l} h ll b =
+    let link : fault p r drawn (Link l j) ≡ 0 = links-stand drawn p r (h .links .links) l ll b j (h .ballot) in
+    record {
+      few = h .links .dice .few;
+      list = ll;
+      ballot = h .ballot;
+      compared = compared-rank drawn p r (h .links .dice .first-dice) l ll b;
+      position = link-position drawn p r l j link;
+      shift = link-shift drawn p r l j link;
+      side = half-side drawn p r j (h .half);
+      numbers = half-numbers drawn p r j (h .half);
+    }
+
+pub full-known : {drawn : Bool} {p : Parameters} {r : List ℕ} {l i : ℕ} → VotesPassed drawn p r → l < lists p → i < p .ballots
+    → first (λ i. found drawn p r (FullOpening l i)) i ≡ Nothing → FullKnown p r l i
+full-known {drawn} {p} {r} {l} {i} h ll li z = record {
+  few = h .dice .few;
+  list = ll;
+  position = li;
+  earlier = full-numbers drawn p r l i z;
+  votes = votes-rise drawn p r (h .votes);
+}
+
+-- ---- parts
 
 module _ (drawn : Bool) (p : Parameters) (r : List ℕ) where
   -- ---- the first command

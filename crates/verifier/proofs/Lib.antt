@@ -1,2 +1,4 @@
+pub mod Stages
 pub mod Known
+pub mod Ending
 pub mod Verdicts

@@ -11,6 +11,11 @@ ghost use Rattle.protocol.specs.Answers.{verdictAnswer};
 ghost use Rattle.protocol.specs.Record.{parametersOf};
 ghost use Rattle.protocol.specs.Judging.{found, ballotFaults, partOneFaults, partTwoFaults, partThreeFaults, firstFault, judged};
 ghost use Rattle.verifier.specs.Passed.{Started};
+
+mod part_one;
+mod part_three;
+mod part_two;
+
 use laws::Found;
 use protocol::Due;
 use protocol::Parameters;
@@ -19,7 +24,7 @@ use protocol::Verdict;
 // ---- the first command
 
 // The fault of the first command. No parameters are known yet, and it needs none.
-fn first_command_fault(bytes: &[u8], drawn: bool, text: &[u8; 86], marks: &[bool; 1024]) -> Found
+fn first_command_fault(bytes: &[u8], drawn: bool) -> Found
     ensures { λ r. ⌜ r ≡ found drawn (parametersOf (before bytes)) (before bytes) Due.First ⌝ }
 {
     let none = Parameters {
@@ -27,7 +32,7 @@ fn first_command_fault(bytes: &[u8], drawn: bool, text: &[u8; 86], marks: &[bool
         ballots: 0,
         compared: 0,
     };
-    reader::command_fault(bytes, 0, Due::First, none, drawn, 0, text, marks)
+    reader::command_fault(bytes, 0, Due::First, none, drawn)
 }
 
 // ---- the whole record
@@ -44,69 +49,50 @@ fn take_in(bytes: &[u8], from: usize, to: usize, drawn: bool, s: sha3::Sponge) -
 }
 
 // Everything behind the first command. The sponge at the first dice is kept and goes on to the second.
-fn rest_faults(
-    bytes: &[u8],
-    p: Parameters,
-    drawn: bool,
-    text: &[u8; 86],
-    marks: &[bool; 1024],
-) -> Found
+fn rest_faults(bytes: &[u8], p: Parameters, drawn: bool) -> Found
     requires { ⌜ Started p (now bytes) ⌝ }
-    ensures { λ r. ⌜ r ≡ partOneFaults drawn p (before bytes) then (partTwoFaults drawn p (before bytes) then partThreeFaults drawn p (before bytes)) ⌝ }
+    ensures { λ r.
+        let r₀ = before bytes in
+        ⌜ r ≡ partOneFaults drawn p r₀ then (partTwoFaults drawn p r₀ then partThreeFaults drawn p r₀) ⌝ }
 {
-    let one = stages::part_one_faults(bytes, p, drawn, text, marks);
+    let one = part_one::part_one_faults(bytes, p, drawn);
     let Found::Nothing = one else {
         return one;
     };
     let dice = layout::at_first_dice(p);
     let kept = take_in(bytes, 0, dice, drawn, sha3::start());
-    let two = stages::part_two_faults(bytes, p, drawn, kept, text, marks);
+    let two = part_two::part_two_faults(bytes, p, drawn, kept);
     let Found::Nothing = two else {
         return two;
     };
     let whole = take_in(bytes, dice, layout::at_second_dice(p), drawn, kept);
-    closing::part_three_faults(bytes, p, drawn, whole, text, marks)
-}
-
-// The first fault of a record; `text` and `marks` stand in where a stage has none.
-fn first_fault_with(bytes: &[u8], drawn: bool, text: &[u8; 86], marks: &[bool; 1024]) -> Found
-    ensures { λ r. ⌜ r ≡ firstFault drawn (before bytes) ⌝ }
-{
-    let f = first_command_fault(bytes, drawn, text, marks);
-    let Found::Nothing = f else {
-        return f;
-    };
-    let p = layout::parameters(bytes);
-    rest_faults(bytes, p, drawn, text, marks)
-}
-
-fn head_fault_with(bytes: &[u8], text: &[u8; 86], marks: &[bool; 1024]) -> Found
-    ensures { λ r. ⌜ r ≡ found false (parametersOf (before bytes)) (before bytes) Due.First then ballotFaults false (parametersOf (before bytes)) (before bytes) (parametersOf (before bytes) .ballots) ⌝ }
-{
-    let f = first_command_fault(bytes, false, text, marks);
-    let Found::Nothing = f else {
-        return f;
-    };
-    let p = layout::parameters(bytes);
-    stages::ballot_faults(bytes, p, false, p.ballots, text, marks)
+    part_three::part_three_faults(bytes, p, drawn, whole)
 }
 
 // The first fault of the parameters and of all ballots: as far as the receipt check reads.
 pub fn head_fault(bytes: &[u8]) -> Found
-    ensures { λ r. ⌜ r ≡ found false (parametersOf (before bytes)) (before bytes) Due.First then ballotFaults false (parametersOf (before bytes)) (before bytes) (parametersOf (before bytes) .ballots) ⌝ }
+    ensures { λ r.
+        let r₀ = before bytes in
+        let p = parametersOf r₀ in
+        ⌜ r ≡ found false p r₀ Due.First then ballotFaults false p r₀ (p .ballots) ⌝ }
 {
-    let text = [0u8; 86];
-    let marks = [false; 1024];
-    head_fault_with(bytes, &text, &marks)
+    let f = first_command_fault(bytes, false);
+    let Found::Nothing = f else {
+        return f;
+    };
+    let p = layout::parameters(bytes);
+    part_one::ballot_faults(bytes, p, false, p.ballots)
 }
 
 // The first fault of a record, with the place where its command starts.
 pub fn first_fault(bytes: &[u8], drawn: bool) -> Found
     ensures { λ r. ⌜ r ≡ firstFault drawn (before bytes) ⌝ }
 {
-    let text = [0u8; 86];
-    let marks = [false; 1024];
-    first_fault_with(bytes, drawn, &text, &marks)
+    let f = first_command_fault(bytes, drawn);
+    let Found::Nothing = f else {
+        return f;
+    };
+    rest_faults(bytes, layout::parameters(bytes), drawn)
 }
 
 fn judge(bytes: &[u8], drawn: bool) -> Verdict

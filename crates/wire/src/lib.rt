@@ -1,10 +1,11 @@
 // Leaf functions on bytes: numbers read and written with the most significant byte first, slices copied and compared.
 // Each width is made of two of half the width, so that one law serves all of them.
 ghost use mathlib.Core.Path.{_≡_};
-ghost use Prim.Native.Nat.{_+_, _≤_, _<_};
+ghost use Prim.Native.Nat.{ℕ, _+_, _*_, _≤_, _<_};
 ghost use lib.ListN.{length};
 ghost use Rattle.laws.specs.Bytes.{number, bytes};
 ghost use Rattle.laws.specs.Lent.{before, after};
+ghost use Rattle.laws.specs.Tables.{tabulate};
 ghost use Rattle.laws.specs.Tests.{same};
 ghost use Rattle.laws.specs.Writing.{Went};
 
@@ -38,6 +39,19 @@ pub fn read8(s: &[u8], at: usize) -> u64
     ensures { λ r. ⌜ (r ≡ number (before s) at 8) × (r < 18446744073709551616) ⌝ }
 {
     (read4(s, at) as u64) * 4294967296 + (read4(s, at + 4) as u64)
+}
+
+// Fills out with numbers of four bytes that stand `step` bytes apart from a place on.
+pub fn fill_numbers(s: &[u8], at: usize, step: usize, out: &mut [u32])
+    requires { ⌜ ((i : ℕ) → i < length (now out) → at + step * i + 4 ≤ length (now s)) ⌝ }
+    ensures { λ _. ⌜ after out ≡ tabulate (λ i. number (before s) (at + step * i) 4) (length (before out)) ⌝ }
+{
+    let n = out.len();
+    let mut i: usize = 0;
+    while i < n {
+        out[i] = read4(s, at + step * i);
+        i += 1;
+    }
 }
 
 // Writes the lowest byte of x at a place, and answers the next place.

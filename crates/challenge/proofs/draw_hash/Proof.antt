@@ -16,7 +16,7 @@ use Rattle.challenge.proofs.draw_hash.Statement.{statement}
 use Rattle.challenge.proofs.draw_hash.Tie as tie
 
 put-decimal-requires : tie.Need-put-decimal-requires
-put-decimal-requires c κs = omega (arith, decimal-length (c .before .args .i))
+put-decimal-requires c κs = omega (arith, decimal-length (c .before .before .args .i))
 
 slice-aggregate-absorb : tie.Need-slice-aggregate-absorb
 slice-aggregate-absorb c = let d = c .before .before .before .put-decimal .ensures in omega (arith, ap length (written d), d .to)
@@ -30,9 +30,9 @@ unfolding drawHash sha3-224
 returns c =
     let third = c .before .before in
     let second = third .before .before in
-    let first = second .before .before in
+    let first = second .before in
     let digits = first .before .before .before .before in
-    let args = digits .before .before .args in
+    let args = digits .before .before .before .args in
     let one = first .absorb .ensures .0 ∙ ap₂ (absorbBytes 144) (first .before .before .start .ensures) (written (digits .put-decimal .ensures)) in
     let two = second .absorb2 .ensures .0 ∙ ap (λ (s : Sponge). absorbBytes 144 s (args .q .now)) one in
     let three = third .absorb3 .ensures .0 ∙ ap (λ (s : Sponge). absorbBytes 144 s (args .last ∷ [])) two in

@@ -16,7 +16,7 @@ abbrev μ-loop : tie.MeasureT-loop
 
 loop-holds : tie.Need-loop-holds Inv-loop μ-loop
 unfolding drawnMask
-loop-holds c = (omega arith, (omega arith, (omega arith, draw-start (listHash (c .args .q .now)) (2 * c .args .compared) (c .args .compared))))
+loop-holds c = (omega arith, (omega arith, (omega arith, draw-start (listHash (c .before .args .q .now)) (2 * c .before .args .compared) (c .before .args .compared))))
 
 add-mask : tie.Need-add-mask Inv-loop μ-loop
 add-mask c =
@@ -29,7 +29,7 @@ add-mask c =
 loop-again : tie.Need-loop-again Inv-loop μ-loop
 loop-again c =
     let l = c .before .before .loop in
-    let args = c .before .before .before .args in
+    let args = c .before .before .before .before .args in
     let lists = 2 * args .compared in
     let bit = c .list-chosen .result in
     let h = listHash (args .q .now) in
@@ -50,7 +50,7 @@ loop-again c =
 returns : tie.Need-returns Inv-loop μ-loop
 returns c =
     let l = c .before .loop in
-    let args = c .before .before .args in (
+    let args = c .before .before .before .args in (
       sym (draw-none (listHash (args .q .now)) (l .i) (2 * args .compared - l .i) (l .left) (l .mask) (omega arith)) ∙ l .inv .1 .1 .1,
       mask-small (l .inv .1 .1 .0) (omega arith),
     )

@@ -17,13 +17,13 @@ read8-requires c Îºs = omega (arith, ap length (c .before .draw-hash .ensures) â
 
 returns : tie.Need-returns
 returns c =
-    let args = c .before .before .before .before .before .args in
+    let args = c .before .before .before .before .before .before .args in
     let h = list-hash (args .q .now) (args .i) (c .before .read8 .ensures .0) (c .before .before .before .draw-hash .ensures) in
     (chosen (args .lists) (args .left) true h (is-below (c .if1 .taken)), omega (arith, c .if1 .taken))
 
 returns-2 : tie.Need-returns-2
 returns-2 c =
-    let args = c .before .before .before .before .before .args in
+    let args = c .before .before .before .before .before .before .args in
     let h = list-hash (args .q .now) (args .i) (c .before .read8 .ensures .0) (c .before .before .before .draw-hash .ensures) in
     (chosen (args .lists) (args .left) false h (not-below (c .if1 .left)), omega (arith, c .if1 .left))
 

@@ -10,4 +10,4 @@ unfolding atBallot
 returns c = omega arith
 
 pub at-ballot-spec : {M : Type 1} → statement M
-at-ballot-spec = tie.close (tie.spec (λ c. search needs) (λ c. search needs) returns)
+at-ballot-spec = tie.close (tie.spec (λ c κs. search needs) (λ c. search needs) (λ c. search needs) returns)

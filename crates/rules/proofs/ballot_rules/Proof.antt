@@ -5,7 +5,7 @@ use native.Mathlib.Omega.{arith}
 use borrow.Author.Needs.{needs}
 use Rattle.laws.specs.Tests.{is-equal, not-equal, is-below, not-below, or-go, or-stop}
 use Rattle.laws.specs.Faults.{rule-go, rule-stop}
-use Rattle.protocol.specs.Layout.{atBallot}
+use Rattle.protocol.specs.Layout.{firstWidth, atBallot}
 use Rattle.protocol.specs.Record.{idOf}
 use Rattle.protocol.specs.Rules.{ballotRules}
 use Rattle.rules.proofs.ballot_rules.Statement.{statement}
@@ -24,7 +24,7 @@ before-read : (c : tie.After-read42) → c .before .read4 .result ≡ idOf (c .b
 unfolding idOf atBallot
 before-read c =
     let g = c .before .before .before .before in
-    let e : 8 + 197 * (g .args .j - 1) + 1 ≡ g .args .at - 196 = omega arith in
+    let e : firstWidth (g .args .p) + 197 * (g .args .j - 1) + 1 ≡ g .args .at - 196 = omega arith in
     rw e (c .before .read4 .ensures .0)
 
 id-read : (c : tie.After-read42) → c .read42 .result ≡ idOf (c .before .before .before .before .args .p) (c .before .before .before .before .args .bytes .now) (c .before .before .before .before .args .j)

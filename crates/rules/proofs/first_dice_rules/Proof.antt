@@ -14,19 +14,19 @@ use Rattle.protocol.specs.Rules.{fairDice, rightShape, firstDiceRules}
 use Rattle.rules.proofs.first_dice_rules.Statement.{statement}
 use Rattle.rules.proofs.first_dice_rules.Tie as tie
 
-fair-read : (c : tie.After-fair-dice) → (let s = c .before .before in c .fair-dice .result ≡ fairDice (firstDiceOf (s .args .p) (s .args .bytes .now)))
+fair-read : (c : tie.After-fair-dice) → (let s = c .before .before .before in c .fair-dice .result ≡ fairDice (firstDiceOf (s .args .p) (s .args .bytes .now)))
 unfolding firstDiceOf
-fair-read c = rw (← c .before .before .pre .here) (c .fair-dice .ensures)
+fair-read c = rw (← c .before .before .before .pre .here) (c .fair-dice .ensures)
 
 returns : tie.Need-returns
 unfolding firstDiceRules
 returns c = rule-stop 6 _ _ (sym (fair-read (c .before)) ∙ not-true _ (c .if1 .taken))
 
-mask-read : (c : tie.After-read4) → (let s = c .before .before .before .before in c .read4 .result ≡ maskOf (s .args .p) (s .args .bytes .now))
+mask-read : (c : tie.After-read4) → (let s = c .before .before .before .before .before in c .read4 .result ≡ maskOf (s .args .p) (s .args .bytes .now))
 unfolding maskOf
-mask-read c = rw (← c .before .before .before .before .pre .here) (c .read4 .ensures .0)
+mask-read c = rw (← c .before .before .before .before .before .pre .here) (c .read4 .ensures .0)
 
-shape-read : (c : tie.After-right-shape) → (let s = c .before .before .before .before .before in c .right-shape .result ≡ rightShape (s .args .p .compared) (maskOf (s .args .p) (s .args .bytes .now)))
+shape-read : (c : tie.After-right-shape) → (let s = c .before .before .before .before .before .before in c .right-shape .result ≡ rightShape (s .args .p .compared) (maskOf (s .args .p) (s .args .bytes .now)))
 shape-read c = rw (← mask-read (c .before)) (c .right-shape .ensures)
 
 returns-2 : tie.Need-returns-2
@@ -35,7 +35,7 @@ returns-2 c = rule-go 6 _ _ (sym (fair-read (c .before .before .before .before))
 
 -- dice and mask are as they should be: rule 8 is left
 shaped : (c : tie.Else2) {k : ℕ} →
-    (let s = c .before .before .before .before .before .before in
+    (let s = c .before .before .before .before .before .before .before in
     let p = s .args .p in
     let r = s .args .bytes .now in
     k ≡ rule 8 (s .args .drawn implies equal (maskOf p r) (drawnMask (p .compared) (challenge (firstDiceOf p r) (take (atFirstDice p) r)))) kept → k ≡ firstDiceRules p r (s .args .drawn))
@@ -43,13 +43,13 @@ unfolding firstDiceRules
 shaped c h = rule-go 6 _ _ (sym (fair-read (c .before .before .before .before)) ∙ not-false _ (c .before .before .before .if1 .left)) (rule-go 7 _ _ (sym (shape-read (c .before)) ∙ not-false _ (c .if2 .left)) h)
 
 drawn-read : (c : tie.After-drawn-mask) →
-    (let s = c .before .before .before .before .before .before .before .before in
+    (let s = c .before .before .before .before .before .before .before .before .before in
     let p = s .args .p in
     let r = s .args .bytes .now in
     c .drawn-mask .result ≡ drawnMask (p .compared) (challenge (firstDiceOf p r) (take (atFirstDice p) r)))
 drawn-read c =
-    let s = c .before .before .before .before .before .before .before .before in
-    c .drawn-mask .ensures .0 ∙ ap (drawnMask (s .args .p .compared)) (s .pre .text-is (c .before .if3 .taken))
+    let s = c .before .before .before .before .before .before .before .before .before in
+    c .drawn-mask .ensures .0 ∙ ap (drawnMask (s .args .p .compared)) (s .pre .known .text-is (c .before .if3 .taken) (omega (arith, s .pre .here, s .pre .whole)))
 
 returns-3 : tie.Need-returns-3
 returns-3 c = shaped (c .before .before .before) (rule-stop 8 _ _ (refuted _ (λ e. omega (arith, drawn-read (c .before), mask-read (c .before .before .before .before .before), equal-iff _ _ .0 (implies-iff _ _ .0 e (c .before .before .if3 .taken))))))

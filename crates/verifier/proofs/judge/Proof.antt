@@ -1,6 +1,6 @@
 -- `verifier::judge` meets its contract: the verdict is the number of the first fault.
 use borrow.Author.Needs.{needs}
-use Rattle.stages.proofs.Stages.{passed-as}
+use Rattle.laws.specs.Faults.{passed-as}
 use Rattle.verifier.proofs.Verdicts.{accepted-is, refused-is}
 use Rattle.verifier.proofs.judge.Statement.{statement}
 use Rattle.verifier.proofs.judge.Tie as tie

@@ -5,10 +5,9 @@ use native.Mathlib.Omega.{arith}
 use lib.ListN.{length}
 use borrow.Author.Needs.{needs}
 use Rattle.laws.specs.declared.Found.the-variants.{Nothing}
-use Rattle.laws.specs.Faults.{first}
+use Rattle.laws.specs.Faults.{first, passed-as, then-fault, then-rest}
 use Rattle.protocol.specs.Layout.{atFirstDice}
 use Rattle.protocol.specs.Judging.{partOneFaults, partTwoFaults}
-use Rattle.stages.proofs.Stages.{passed-as, then-fault, then-rest}
 use Rattle.verifier.proofs.Known.{part-one-reaches, part-two-reaches, part-two-stands, prefix-start, prefix-on}
 use Rattle.sha3.proofs.Taking.{start-fill}
 use Rattle.protocol.proofs.Lengths.{first-dice-inside}
@@ -38,8 +37,10 @@ part-two-faults-requires c κs =
     record {
       few = s .pre .few;
       reaches = reaches (c .before .before .before);
-      fill = c .take-in .ensures .0;
-      prefix-is = λ d. prefix-start (s .args .bytes .now) (c .before .start .ensures) (c .before .before .at-first-dice .ensures .0) (c .take-in .ensures .1 d);
+      taken = record {
+        fill = c .take-in .ensures .0;
+        prefix-is = λ d. prefix-start (s .args .bytes .now) (c .before .start .ensures) (c .before .before .at-first-dice .ensures .0) (c .take-in .ensures .1 d);
+      };
     }
 
 returns-2 : tie.Need-returns-2
@@ -67,12 +68,13 @@ part-three-faults-requires c κs =
     let t = part-two-stands (s .args .drawn) p r (two (c .before .before)) in
     let first = c .before .before .before .before .before .before .before .at-first-dice .ensures .0 in
     record {
-      dice = record { few = s .pre .few; first-dice = t .0 };
-      links = t .1;
-      fill = c .take-in2 .ensures .0;
-      prefix-is = λ d.
-          prefix-on r (prefix-start r (c .before .before .before .before .before .before .start .ensures) first (c .before .before .before .before .before .take-in .ensures .1 d)) first (c .before .at-second-dice .ensures .0)
-          (omega (arith, first-dice-inside p)) (c .take-in2 .ensures .1 d);
+      links = record { dice = record { few = s .pre .few; first-dice = t .0 }; links = t .1 };
+      taken = record {
+        fill = c .take-in2 .ensures .0;
+        prefix-is = λ d.
+            prefix-on r (prefix-start r (c .before .before .before .before .before .before .start .ensures) first (c .before .before .before .before .before .take-in .ensures .1 d)) first (c .before .at-second-dice .ensures .0)
+            (omega (arith, first-dice-inside p)) (c .take-in2 .ensures .1 d);
+      };
     }
 
 returns-3 : tie.Need-returns-3

@@ -9,16 +9,16 @@ use Rattle.results.proofs.votes.read_votes.Tie as tie
 at-vote-requires : tie.Need-at-vote-requires
 at-vote-requires c κs = (c .before .before .pre .few, omega arith)
 
-fill-votes-requires : tie.Need-fill-votes-requires
-fill-votes-requires c κs =
+fill-numbers-requires : tie.Need-fill-numbers-requires
+fill-numbers-requires c κs i h =
     let v = c .before .before .before .before .pre in
-    (omega (arith, v .few .ballots, v .long), omega (arith, v .reaches, v .long, c .before .at-vote .ensures .0))
+    omega (arith, h, v .reaches, v .long, c .before .at-vote .ensures .0)
 
 returns : tie.Need-returns
 returns c =
     let at = c .before .before .before .before in
     let v = at .before .before .before .pre in
-    c .before .before .fill-votes .ensures ∙ votes-read _ (v .is) (at .at-vote .ensures .0) (v .long)
+    c .before .before .fill-numbers .ensures ∙ votes-read _ (v .is) (at .at-vote .ensures .0) (v .long)
 
 pub read-votes-spec : {M : Type 1} → statement M
-read-votes-spec = tie.close (tie.spec at-vote-requires fill-votes-requires (λ c. search needs) returns)
+read-votes-spec = tie.close (tie.spec at-vote-requires (λ c. search needs) fill-numbers-requires (λ c. search needs) returns)
