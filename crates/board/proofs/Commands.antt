@@ -1,83 +1,108 @@
--- One ballot and one entry of part one: how long it is, and that it is what its writer writes of the split and of the part of the keys that it
--- is lent.
-use mathlib.Core.Path.{_≡_, ap₂}
-use mathlib.Core.List.{List, _++_}
-use Prim.Native.Nat.{ℕ, _+_, _-_, _*_}
+-- One ballot and one entry of part one: how long it is, and that it is what its writer writes of the six numbers that were followed and of
+-- the part of the keys that it is lent.
+use mathlib.Core.Path.{_≡_, ap, ap₂, _∙_}
+use mathlib.Core.List.{List, [], _∷_, _++_}
+use Prim.Native.Nat.{ℕ, _+_, _-_, _*_, _≤_, _<_}
 use native.Mathlib.Omega.{arith}
 use lib.ListN.{length, take, drop, length-append}
-use Rattle.laws.specs.Chunks.{chunks, chunks-even}
-use Rattle.laws.specs.Writing.{Went, go-on, go-turn, go-same, whole, part-is}
+use Rattle.laws.specs.Bytes.{bytes}
+use Rattle.laws.specs.Chunks.{piece, chunks, chunks-even, chunks-same}
+use Rattle.laws.specs.Writing.{Went, go-on, whole, part-is, row-within}
 use Rattle.protocol.specs.declared.Parameters.{Parameters}
+use Rattle.protocol.specs.declared.Place.{Place}
 use Rattle.protocol.specs.declared.Place.the-variants.{InBallot, InEntry}
-use Rattle.protocol.specs.Terms.{item, commitment}
+use Rattle.protocol.specs.Terms.{item, commitment, opening}
 use Rattle.protocol.specs.Tablet.{ballotCommand}
 use Rattle.protocol.specs.Layout.{lists, atFirstDice, partOneLength}
-use Rattle.protocol.specs.Record.{firstCommand, entryCommand}
+use Rattle.protocol.specs.Record.{firstCommand, entryCommand, partOne}
+use Rattle.protocol.specs.Inputs.{Slices, ballotKeys, entryKeys, inputsOf}
+use Rattle.protocol.specs.Servers.{ballotNumber, entryNumber, ballotOpening, entryOpening, postedBoard, firstPart}
 use Rattle.protocol.proofs.Widths.{length-first, length-ballot, length-entry}
 use Rattle.protocol.proofs.Honesty.{length-commitment}
-use Rattle.writers.specs.declared.Split.{Split}
-use Rattle.writers.specs.Splits.{slotOpening}
-use Rattle.lists.specs.Entries.{ballotSplit, entrySplit, ballotKeysAt, entryKeysAt, ballotOpeningIn, entryOpeningIn}
-use Rattle.board.specs.Posted.{ballotsIn, entriesIn}
+use Rattle.mixing.specs.Followed.{trail}
+use Rattle.mixing.specs.Passed.{Passed}
+use Rattle.mixing.proofs.Following.{all-few}
+use Rattle.mixing.proofs.Agreement as agreement
+use Rattle.commands.specs.Openings.{openingOf}
 
-module _ (M n : ℕ) where
-  abbrev pub ballotIn : List ℕ → List ℕ → List ℕ → List ℕ → ℕ → List ℕ
-  ballotIn ids rows numbers keys j = ballotCommand (item ids j) (λ q. commitment (InBallot (item ids j) q) (ballotOpeningIn M n rows numbers keys j q))
+-- an opening of a number that was followed, with its key
+opening-same : (place : Place) (p : Parameters) (six keys : List ℕ) (a q x : ℕ) → item six q ≡ x
+    → commitment p place (openingOf six (take (a + 192 - a) (drop a keys)) q) ≡ commitment p place (opening (piece (piece keys a 192) (32 * q) 32) x)
+unfolding openingOf
+opening-same place p six keys a q x e =
+    ap₂ (λ (k : List ℕ) (y : ℕ). commitment p place (opening (piece k (32 * q) 32) y)) (part-is keys a 192) e
 
-  abbrev pub entryIn : List ℕ → List ℕ → List ℕ → ℕ → ℕ → List ℕ
-  entryIn mixed numbers keys l i = entryCommand l i (λ q. commitment (InEntry l i q) (entryOpeningIn M n mixed numbers keys l i q))
+-- commands whose six commitments are the same
+ballot-same : (id : ℕ) (c d : ℕ → List ℕ) → ((q : ℕ) → q < 6 → c q ≡ d q) → ballotCommand id c ≡ ballotCommand id d
+unfolding ballotCommand
+ballot-same id c d h = ap (λ (x : List ℕ). (2 ∷ bytes 4 id) ++ x) (chunks-same c d 6 h)
 
-  pub ballot-wide : (ids rows numbers keys : List ℕ) (j : ℕ) → length (ballotIn ids rows numbers keys j) ≡ 197
-  ballot-wide ids rows numbers keys j = length-ballot _ _ (λ q lq. length-commitment _ _)
+entry-same : (l i : ℕ) (c d : ℕ → List ℕ) → ((q : ℕ) → q < 6 → c q ≡ d q) → entryCommand l i c ≡ entryCommand l i d
+unfolding entryCommand
+entry-same l i c d h = ap (λ (x : List ℕ). ((3 ∷ bytes 1 l) ++ bytes 2 i) ++ x) (chunks-same c d 6 h)
 
-  pub entry-wide : (mixed numbers keys : List ℕ) (l i : ℕ) → length (entryIn mixed numbers keys l i) ≡ 196
-  entry-wide mixed numbers keys l i = length-entry l i _ (λ q lq. length-commitment _ _)
+module _ (s : Slices) where
+  abbrev pub ballotOf : ℕ → List ℕ
+  ballotOf j = ballotCommand (postedBoard (inputsOf s) .id j) (postedBoard (inputsOf s) .ballotCommitment j)
 
-  -- so many ballots, and all entries of a list
-  pub ballots-wide : (ids rows numbers keys : List ℕ) (k : ℕ) → length (ballotsIn M n ids rows numbers keys k) ≡ k * 197
-  ballots-wide ids rows numbers keys k = chunks-even (ballotIn ids rows numbers keys) 197 k (λ j lj. ballot-wide ids rows numbers keys j)
+  abbrev pub entryOf : ℕ → ℕ → List ℕ
+  entryOf l i = entryCommand l i (postedBoard (inputsOf s) .entryCommitment l i)
 
-  pub entries-wide : (mixed numbers keys : List ℕ) (l : ℕ) → length (entriesIn M n mixed numbers keys l n) ≡ n * 196
-  entries-wide mixed numbers keys l = chunks-even (entryIn mixed numbers keys l) 196 n (λ i li. entry-wide mixed numbers keys l i)
+  -- all entries of a list
+  abbrev pub entriesOf : ℕ → List ℕ
+  entriesOf l = chunks (entryOf l) (s .parameters .ballots)
 
-  -- a turn: the ballots before j are written, and then ballot j
-  pub ballot-turn : (ids rows numbers keys : List ℕ) (j : ℕ) {l out out' : List ℕ} {a b r : ℕ} {split : Split} → Went l a (chunks (ballotIn ids rows numbers keys) j) out b
-      → split ≡ ballotSplit M n rows numbers j
-      → Went out b (ballotCommand (item ids j) (λ q. commitment (InBallot (item ids j) q) (slotOpening split (take (ballotKeysAt j + 192 - ballotKeysAt j) (drop (ballotKeysAt j) keys)) q))) out' r
-      → Went l a (chunks (ballotIn ids rows numbers keys) (j + 1)) out' r
-  unfolding ballotOpeningIn
-  ballot-turn ids rows numbers keys j h e w =
-      go-turn (ballotIn ids rows numbers keys) j h
-      (go-same w
-      (ap₂ (λ (s : Split) (k : List ℕ). ballotCommand (item ids j) (λ q. commitment (InBallot (item ids j) q) (slotOpening s k q))) e (part-is keys (ballotKeysAt j) 192)))
+  pub ballot-wide : (j : ℕ) → length (ballotOf j) ≡ 197
+  unfolding postedBoard
+  ballot-wide j = length-ballot _ _ (λ q lq. length-commitment _ _ _)
 
-  -- .. and of a list's entries
-  pub entry-turn : (mixed numbers keys : List ℕ) (m i : ℕ) {l out out' : List ℕ} {a b r : ℕ} {split : Split} → Went l a (chunks (entryIn mixed numbers keys m) i) out b
-      → split ≡ entrySplit M n mixed numbers m i
-      → Went out b (entryCommand m i (λ q. commitment (InEntry m i q) (slotOpening split (take (entryKeysAt n m i + 192 - entryKeysAt n m i) (drop (entryKeysAt n m i) keys)) q))) out' r
-      → Went l a (chunks (entryIn mixed numbers keys m) (i + 1)) out' r
-  unfolding entryOpeningIn
-  entry-turn mixed numbers keys m i h e w =
-      go-turn (entryIn mixed numbers keys m) i h
-      (go-same w
-      (ap₂ (λ (s : Split) (k : List ℕ). entryCommand m i (λ q. commitment (InEntry m i q) (slotOpening s k q))) e (part-is keys (entryKeysAt n m i) 192)))
+  pub entry-wide : (l i : ℕ) → length (entryOf l i) ≡ 196
+  unfolding postedBoard
+  entry-wide l i = length-entry l i _ (λ q lq. length-commitment _ _ _)
 
--- the parameters, the ballots and the lists, one behind the other, are as long as part one is
-pub part-written : (p : Parameters) (ids rows mixed numbers keys : List ℕ) (k : ℕ) {l first second third : List ℕ} {a b r : ℕ} → k ≡ p .ballots → length l ≡ partOneLength p
-    → Went l 0 (firstCommand p) first a → Went first a (ballotsIn (p .modulus) k ids rows numbers keys k) second b
-    → Went second b (chunks (λ l. entriesIn (p .modulus) (p .ballots) mixed numbers keys l (p .ballots)) (lists p)) third r
-    → third ≡ firstCommand p ++ (ballotsIn (p .modulus) (p .ballots) ids rows numbers keys (p .ballots) ++ chunks (λ l. entriesIn (p .modulus) (p .ballots) mixed numbers keys l (p .ballots)) (lists p))
-unfolding atFirstDice
-part-written p ids rows mixed numbers keys k e long f g h =
-    let n = p .ballots in
-    let ballots = ballotsIn (p .modulus) n ids rows numbers keys n in
-    let entry : ℕ → List ℕ = λ l. entriesIn (p .modulus) n mixed numbers keys l n in
-    whole (go-on f (go-on (rw e at g) h) .wrote)
-    (omega (
-      arith,
-      length-append (firstCommand p) (ballots ++ chunks entry (lists p)),
-      length-append ballots (chunks entry (lists p)),
-      length-first p,
-      ballots-wide (p .modulus) n ids rows numbers keys n,
-      chunks-even entry (n * 196) (lists p) (λ l ll. entries-wide (p .modulus) n mixed numbers keys l),
-    ))
+  pub entries-wide : (l : ℕ) → length (entriesOf l) ≡ s .parameters .ballots * 196
+  entries-wide l = chunks-even (entryOf l) 196 (s .parameters .ballots) (λ i li. entry-wide l i)
+
+  -- where the keys of place i of list l start, and that they end inside the keys
+  abbrev pub entryKeysAt : ℕ → ℕ → ℕ
+  entryKeysAt l i = 192 * s .parameters .ballots + 192 * (l * s .parameters .ballots + i)
+
+  pub keys-within : Passed s → (l i : ℕ) → l < lists (s .parameters) → i < s .parameters .ballots
+      → (entryKeysAt l i + 192 ≤ length (s .keys)) × (length (s .keys) ≤ 4915200)
+  keys-within t l i ll li =
+      let few = all-few (agreement.in-list s (t .tests) ll) in
+      let here = row-within l (2 * s .parameters .compared) (s .parameters .ballots) ll in
+      (omega (arith, here, t .tests .keys-long), omega (arith, few, t .tests .keys-long, t .tests .ballots-high))
+
+  -- what is written of ballot j
+  pub ballot-is : (j : ℕ) (six : List ℕ)
+      → ((q : ℕ) → q < 6 → (item six q ≡ ballotNumber (inputsOf (trail (s .parameters) (s .votes) (s .numbers) [])) j q) × (item six q < s .parameters .modulus))
+      → ballotCommand (item (s .ids) j) (λ q. commitment (s .parameters) (InBallot (item (s .ids) j) q) (openingOf six (take (192 * j + 192 - 192 * j) (drop (192 * j) (s .keys))) q))
+      ≡ ballotOf j
+  unfolding postedBoard ballotOpening inputsOf ballotKeys
+  ballot-is j six h =
+      ballot-same _ _ _ (λ q lq. opening-same _ (s .parameters) six (s .keys) (192 * j) q (ballotNumber (inputsOf s) j q) (h q lq .0 ∙ agreement.ballot-same s 0 0 j q))
+
+  -- .. and of place i of list l
+  pub entry-is : (l i : ℕ) (six : List ℕ)
+      → ((q : ℕ) → q < 6 → (item six q ≡ entryNumber (inputsOf (trail (s .parameters) (s .votes) (s .numbers) (s .permutations))) l i q) × (item six q < s .parameters .modulus))
+      → entryCommand l i (λ q. commitment (s .parameters) (InEntry l i q) (openingOf six (take (entryKeysAt l i + 192 - entryKeysAt l i) (drop (entryKeysAt l i) (s .keys))) q))
+      ≡ entryOf l i
+  unfolding postedBoard entryOpening inputsOf entryKeys
+  entry-is l i six h =
+      entry-same l i _ _ (λ q lq. opening-same _ (s .parameters) six (s .keys) (entryKeysAt l i) q (entryNumber (inputsOf s) l i q) (h q lq .0 ∙ agreement.entry-same s l i q))
+
+  -- the parameters, the ballots and the lists, one behind the other
+  pub part-written : {out first second third : List ℕ} {a b r : ℕ} → length out ≡ partOneLength (s .parameters) → Went out 0 (firstCommand (s .parameters)) first a
+      → Went first a (chunks ballotOf (s .parameters .ballots)) second b → Went second b (chunks entriesOf (lists (s .parameters))) third r → third ≡ firstPart s
+  unfolding firstPart partOne postedBoard inputsOf atFirstDice
+  part-written long f g h =
+      whole (go-on f (go-on g h) .wrote)
+      (omega (
+        arith,
+        length-append (firstCommand (s .parameters)) (chunks ballotOf (s .parameters .ballots) ++ chunks entriesOf (lists (s .parameters))),
+        length-append (chunks ballotOf (s .parameters .ballots)) (chunks entriesOf (lists (s .parameters))),
+        length-first (s .parameters),
+        chunks-even ballotOf 197 (s .parameters .ballots) (λ j lj. ballot-wide j),
+        chunks-even entriesOf (s .parameters .ballots * 196) (lists (s .parameters)) (λ l ll. entries-wide l),
+      ))

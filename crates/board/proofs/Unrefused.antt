@@ -6,7 +6,7 @@ use Rattle.laws.specs.Tests.{equal, equal-iff}
 use Rattle.protocol.specs.Layout.{partOneLength}
 use Rattle.protocol.specs.Inputs.{Slices, partOneRefusal}
 use Rattle.protocol.proofs.Unrefused.{unrefused}
-use Rattle.lists.specs.Passed.{Passed}
+use Rattle.mixing.specs.Passed.{Passed}
 
 pub part-ready : (s : Slices) (long : ℕ) {k : ℕ} → k ≡ partOneRefusal s long → k ≡ 0 → Passed s × (long ≡ partOneLength (s .parameters))
 unfolding partOneRefusal

@@ -2,50 +2,57 @@
 use mathlib.Core.Path.{_≡_}
 use Prim.Native.Nat.{_-_, _*_, _≤_}
 use native.Mathlib.Omega.{arith}
-use lib.ListN.{length}
-use Rattle.laws.specs.Writing.{Went, start, part-length}
-use Rattle.writers.proofs.Operands.{room-even}
-use Rattle.board.specs.Posted.{ballotsIn}
-use Rattle.board.proofs.Commands.{ballotIn, ballot-wide, ballot-turn}
+use Rattle.laws.specs.Chunks.{chunks}
+use Rattle.laws.specs.Writing.{Went, start, go-turn, go-same, part-length}
+use Rattle.protocol.specs.Inputs.{Slices, given}
+use Rattle.mixing.proofs.Agreement as agreement
+use Rattle.commands.proofs.Operands.{room-even}
+use Rattle.board.proofs.Commands.{ballotOf, ballot-wide, ballot-is}
 use Rattle.board.proofs.put_ballots.Statement.{statement}
 use Rattle.board.proofs.put_ballots.Tie as tie
 
 abbrev Inv-loop : tie.InvT-loop
-Inv-loop out₀ at modulus ids rows numbers keys n next₀ j₀ out next j = (j ≤ length ids) × Went out₀ at (ballotsIn modulus (length ids) ids rows numbers keys j) out next
+Inv-loop out₀ at p ids votes numbers permutations keys n next₀ j₀ out next j = (j ≤ n) × Went out₀ at (chunks (ballotOf (given p ids votes numbers permutations keys)) j) out next
 
 abbrev μ-loop : tie.MeasureT-loop
-μ-loop out₀ at modulus ids rows numbers keys n next₀ j₀ out next j = length ids - j
+μ-loop out₀ at p ids votes numbers permutations keys n next₀ j₀ out next j = n - j
+
+-- the slices that it is lent
+abbrev slices : tie.Start Inv-loop μ-loop → Slices
+slices c =
+    let a = c .args in
+    given (a .p) (a .ids .now) (a .votes .now) (a .numbers .now) (a .permutations .now) (a .keys .now)
 
 loop-holds : tie.Need-loop-holds Inv-loop μ-loop
 loop-holds c = (omega arith, start _ _ (omega arith))
 
-ballot-split-requires : tie.Need-ballot-split-requires Inv-loop μ-loop
-ballot-split-requires c κs = (c .before .before .before .before .before .before .before .pre .0, omega arith)
+ballot-requires : tie.Need-ballot-requires Inv-loop μ-loop
+ballot-requires c κs =
+    let start = c .before .before .before .before .before .before .before .before in
+    let tests = start .pre .0 .tests in
+    (agreement.votes (slices start) tests, (agreement.numbers (slices start) tests, omega arith))
 
 put-ballot-requires : tie.Need-put-ballot-requires Inv-loop μ-loop
 put-ballot-requires c κs =
-    let start = c .before .before .before .before .before .before .before .before .before .before .before in
-    let s = start .args in
-    let j = c .before .before .before .before .before .loop .j in (
-      c .before .before .before .ballot-split .ensures .1,
-      (
-        part-length (s .keys .now) (192 * j) 192 (omega arith),
-        room-even (ballotIn (s .parameters .modulus) (length (s .ids .now)) (s .ids .now) (s .rows .now) (s .numbers .now) (s .keys .now)) 197 j (length (s .ids .now))
-            (λ i l. ballot-wide (s .parameters .modulus) (length (s .ids .now)) (s .ids .now) (s .rows .now) (s .numbers .now) (s .keys .now) i) (c .before .before .before .before .before .loop .inv .1) (start .pre .1 .1) (omega arith),
-      ),
+    let start = c .before .before .before .before .before .before .before .before .before .before .before .before in
+    let s = slices start in
+    let at = c .before .before .before .before .before .loop in (
+      part-length (s .keys) (192 * at .j) 192 (omega (arith, start .pre .0 .tests .keys-long)),
+      room-even (ballotOf s) 197 (at .j) (s .parameters .ballots) (λ j l. ballot-wide s j) (at .inv .1) (start .pre .1) (omega arith),
     )
 
 loop-again : tie.Need-loop-again Inv-loop μ-loop
 loop-again c =
-    let s = c .before .before .before .before .before .before .before .before .before .before .before .before .before .before .args in
+    let s = slices (c .before .before .before .before .before .before .before .before .before .before .before .before .before .before .before) in
     let at = c .before .before .before .before .before .before .before .before .loop in (
       omega arith,
-      ballot-turn (s .parameters .modulus) (length (s .ids .now)) (s .ids .now) (s .rows .now) (s .numbers .now) (s .keys .now) (at .j) (at .inv .1) (c .before .before .before .before .before .before .ballot-split .ensures .0) (c .before .before .put-ballot .ensures),
+      go-turn (ballotOf s) (at .j) (at .inv .1)
+          (go-same (c .before .before .put-ballot .ensures) (ballot-is s (at .j) (c .before .before .before .before .before .before .ballot .result) (c .before .before .before .before .before .before .ballot .ensures))),
     )
 
 returns : tie.Need-returns Inv-loop μ-loop
 returns c =
-    let e : c .before .loop .j ≡ length (c .before .before .before .before .before .before .before .args .ids .now) = omega arith in
+    let e : c .before .loop .j ≡ c .before .before .before .before .before .before .before .before .args .p .ballots = omega arith in
     rw e at (c .before .loop .inv .1)
 
 pub put-ballots-spec : {M : Type 1} → statement M
@@ -55,9 +62,9 @@ put-ballots-spec =
     Inv-loop
     μ-loop
     loop-holds
-    (λ c. omega arith)
-    (λ c. omega arith)
-    ballot-split-requires
+    (λ c. omega (arith, c .before .before .before .before .before .before .before .before .pre .0 .tests .ballots-high))
+    (λ c. omega (arith, c .before .before .before .before .before .before .before .before .pre .0 .tests .ballots-high))
+    ballot-requires
     (λ c. omega arith)
     (λ c. omega arith)
     (λ c. omega arith)

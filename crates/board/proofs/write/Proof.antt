@@ -1,50 +1,59 @@
--- `board::write` meets its contract: it lends the room for the rows of the ballots and of all lists.
-use mathlib.Core.Path.{_≡_, sym}
-use Prim.Native.Nat.{ℕ, _*_, _≤_}
-use native.Mathlib.Nat.{mul-le-mul-right}
+-- `board::write` meets its contract: the parameters, the ballots and the lists, one behind the other, fill the buffer.
 use native.Mathlib.Omega.{arith}
 use borrow.Author.Needs.{needs}
-use lib.ListN.{length, take, replicate}
-use lib.Seq.{length-take-le}
+use Rattle.laws.specs.Chunks.{chunks-even}
+use Rattle.protocol.specs.Layout.{atFirstDice}
+use Rattle.protocol.specs.Inputs.{Slices, given}
+use Rattle.protocol.proofs.Widths.{length-first}
+use Rattle.board.proofs.Commands.{ballotOf, ballot-wide, part-written}
 use Rattle.board.proofs.write.Statement.{statement}
 use Rattle.board.proofs.write.Tie as tie
 
--- the rows of all lists fit, and so a part of the room is as long as they are
-all-fit : (n m : ℕ) → n ≤ 1024 → m ≤ 12 → 2 * m * (3 * n) ≤ 73728
-all-fit n m few lists = omega (arith, mul-le-mul-right {m = 2 * m} {n = 24} (3 * n) (omega arith))
+-- the slices that it is lent
+abbrev slices : tie.Start → Slices
+slices c =
+    let a = c .args in
+    given (a .p) (a .ids .now) (a .votes .now) (a .numbers .now) (a .permutations .now) (a .keys .now)
 
-row-room : (n : ℕ) → n ≤ 1024 → length {A = ℕ} (take (3 * n) (replicate 3072 0)) ≡ 3 * n
-row-room n few = length-take-le (3 * n) (replicate 3072 0) (omega arith)
+put-first-requires : tie.Need-put-first-requires
+unfolding atFirstDice
+put-first-requires c κs =
+    let start = c .before .before .before .before .before .before .before in
+    (omega (arith, start .pre .0 .tests .ballots-high), (omega (arith, start .pre .0 .tests .compared-high), omega (arith, start .pre .1)))
 
-list-room : (n m : ℕ) → n ≤ 1024 → m ≤ 12 → length {A = ℕ} (take (2 * m * (3 * n)) (replicate 73728 0)) ≡ 2 * m * (3 * n)
-list-room n m few lists = length-take-le (2 * m * (3 * n)) (replicate 73728 0) (all-fit n m few lists)
-
-slice-aggregate-write-in : tie.Need-slice-aggregate-write-in
-slice-aggregate-write-in c = sym (row-room (c .before .before .before .before .before .before .before .before .before .args .ballots) (c .before .before .before .before .before .before .before .before .before .pre .0 .tests .ballots-high))
-
-array-borrow-prefix-mixed : tie.Need-array-borrow-prefix-mixed
-array-borrow-prefix-mixed c = all-fit (c .before .before .before .before .before .before .before .before .before .args .ballots) (c .before .before .before .before .before .before .before .before .before .args .compared) (c .before .before .before .before .before .before .before .before .before .pre .0 .tests .ballots-high) (c .before .before .before .before .before .before .before .before .before .pre .0 .tests .compared-high)
-
-slice-aggregate-write-in-2 : tie.Need-slice-aggregate-write-in-2
-slice-aggregate-write-in-2 c = sym (list-room (c .before .before .before .before .before .before .before .before .before .before .args .ballots) (c .before .before .before .before .before .before .before .before .before .before .args .compared) (c .before .before .before .before .before .before .before .before .before .before .pre .0 .tests .ballots-high) (c .before .before .before .before .before .before .before .before .before .before .pre .0 .tests .compared-high))
-
-write-in-requires : tie.Need-write-in-requires
-write-in-requires c κs =
+put-ballots-requires : tie.Need-put-ballots-requires
+unfolding atFirstDice
+put-ballots-requires c κs =
     let start = c .before .before .before .before .before .before .before .before .before .before .before in
-    let u = start .pre .0 .tests in
-    (start .pre .0, (row-room (start .args .ballots) (u .ballots-high), (list-room (start .args .ballots) (start .args .compared) (u .ballots-high) (u .compared-high), start .pre .1)))
+    let first = c .before .before .before .put-first .ensures in
+    (start .pre .0, omega (arith, start .pre .1, first .to, first .wrote .long, length-first (start .args .p)))
+
+put-lists-requires : tie.Need-put-lists-requires
+unfolding atFirstDice
+put-lists-requires c κs =
+    let start = c .before .before .before .before .before .before .before .before .before .before .before .before .before .before .before in
+    let s = slices start in
+    let first = c .before .before .before .before .before .before .before .put-first .ensures in
+    let ballots = c .before .before .before .put-ballots .ensures in (
+      start .pre .0,
+      omega (
+        arith,
+        start .pre .1,
+        first .to,
+        first .wrote .long,
+        ballots .to,
+        ballots .wrote .long,
+        length-first (s .parameters),
+        chunks-even (ballotOf s) 197 (s .parameters .ballots) (λ j l. ballot-wide s j),
+      ),
+    )
+
+returns : tie.Need-returns
+returns c =
+    let start = c .before .before .before .before .before .before .before .before .before .before .before .before .before .before .before .before .before .before in
+    part-written (slices start) (start .pre .1) (c .before .before .before .before .before .before .before .before .before .before .put-first .ensures) (c .before .before .before .before .before .before .put-ballots .ensures) (c .before .before .put-lists .ensures)
 
 pub write-spec : {M : Type 1} → statement M
 write-spec =
     tie.close
-    (tie.spec
-    (λ c. search needs)
-    (λ c. search needs)
-    (λ c. search needs)
-    (λ c. search needs)
-    slice-aggregate-write-in
-    array-borrow-prefix-mixed
-    slice-aggregate-write-in-2
-    write-in-requires
-    (λ c. search needs)
-    (λ c. search needs))
+    (tie.spec put-first-requires put-ballots-requires put-lists-requires (λ c. search needs) returns)
