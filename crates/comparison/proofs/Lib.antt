@@ -1,3 +1,2 @@
 pub mod Compared
-pub mod Agreement
 pub mod Unrefused

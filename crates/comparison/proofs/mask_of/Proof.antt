@@ -9,7 +9,7 @@ use Rattle.comparison.proofs.mask_of.Tie as tie
 returns : tie.Need-returns
 returns c =
     let s = c .before .before .before .before .before .before .args in
-    c .drawn-mask .ensures .0 ∙ ap (drawnMask (s .parameters .compared)) (c .before .before .text-of .ensures ∙ ap (challenge (s .dice .now)) (append-nil (s .one .now)))
+    c .drawn-mask .ensures .0 ∙ ap (drawnMask (s .p .compared)) (c .before .before .text-of .ensures ∙ ap (challenge (s .dice .now)) (append-nil (s .one .now)))
 
 pub mask-of-spec : {M : Type 1} → statement M
 mask-of-spec =

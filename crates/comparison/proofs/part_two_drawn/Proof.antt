@@ -3,18 +3,18 @@ use mathlib.Core.Path.{refl, ap, _∙_}
 use mathlib.Core.List.{[]}
 use borrow.Author.Needs.{needs}
 use Rattle.protocol.specs.Servers.{secondPart, maskFor}
-use Rattle.inputs.proofs.Endings.{refused, done}
+use Rattle.protocol.proofs.Answered.{unwritten, wrote}
 use Rattle.comparison.proofs.Unrefused.{mask-drawn}
 use Rattle.comparison.proofs.part_two_drawn.Statement.{statement}
 use Rattle.comparison.proofs.part_two_drawn.Tie as tie
 
 returns : tie.Need-returns
-returns c = refused _ _ _ _ (c .before .part-two-drawn .ensures) (c .if1 .taken)
+returns c = unwritten _ _ _ _ (c .before .part-two-drawn .ensures) (c .if1 .taken)
 
 mask-of-requires : tie.Need-mask-of-requires
 mask-of-requires c κs =
-    let w = mask-drawn _ _ _ _ _ [] (c .before .part-two-drawn .ensures) (c .if1 .left) refl in
-    (w .inputs .tests .compared-high, w .dice-long)
+    let (passed, (is30, rest)) = mask-drawn _ _ _ _ _ [] (c .before .part-two-drawn .ensures) (c .if1 .left) refl in
+    (passed .tests .compared-high, is30)
 
 write-requires : tie.Need-write-requires
 write-requires c κs = mask-drawn _ _ _ _ _ _ (c .before .before .before .part-two-drawn .ensures) (c .before .before .if1 .left) (c .before .mask-of .ensures)
@@ -22,7 +22,7 @@ write-requires c κs = mask-drawn _ _ _ _ _ _ (c .before .before .before .part-t
 returns-2 : tie.Need-returns-2
 unfolding maskFor
 returns-2 c =
-    done _ _ _ _ _ (c .before .before .before .before .before .before .part-two-drawn .ensures) (c .before .before .before .before .before .if1 .left)
+    wrote _ _ _ _ _ (c .before .before .before .before .before .before .part-two-drawn .ensures) (c .before .before .before .before .before .if1 .left)
     (c .before .before .write .ensures ∙ ap (secondPart _ _) (c .before .before .before .before .mask-of .ensures))
 
 pub part-two-drawn-spec : {M : Type 1} → statement M

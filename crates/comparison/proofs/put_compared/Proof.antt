@@ -5,38 +5,41 @@ use native.Mathlib.Omega.{arith}
 use borrow.Author.Needs.{needs}
 use Rattle.laws.specs.Chunks.{chunks}
 use Rattle.laws.specs.Writing.{Went, start, go-turn}
-use Rattle.comparison.proofs.Compared.{comparedLinks, list-links, list-places, list-room}
+use Rattle.protocol.specs.Inputs.{Slices, given}
+use Rattle.comparison.proofs.Compared.{comparedLinks, list-room}
 use Rattle.comparison.proofs.put_compared.Statement.{statement}
 use Rattle.comparison.proofs.put_compared.Tie as tie
 
 abbrev Inv-loop : tie.InvT-loop
-Inv-loop out₀ at p mask positions numbers lists next₀ l₀ out next l = (l ≤ lists) × Went out₀ at (chunks (comparedLinks p mask positions numbers) l) out next
+Inv-loop out₀ at p ids votes numbers permutations keys mask lists next₀ l₀ out next l = (l ≤ lists) × Went out₀ at (chunks (comparedLinks (given p ids votes numbers permutations keys) mask) l) out next
 
 abbrev μ-loop : tie.MeasureT-loop
-μ-loop out₀ at p mask positions numbers lists next₀ l₀ out next l = lists - l
+μ-loop out₀ at p ids votes numbers permutations keys mask lists next₀ l₀ out next l = lists - l
+
+-- the slices that it is lent
+abbrev slices : tie.Start Inv-loop μ-loop → Slices
+slices c =
+    let a = c .args in
+    given (a .p) (a .ids .now) (a .votes .now) (a .numbers .now) (a .permutations .now) (a .keys .now)
 
 loop-holds : tie.Need-loop-holds Inv-loop μ-loop
 loop-holds c = (omega arith, start _ _ (omega arith))
 
 put-if-compared-requires : tie.Need-put-if-compared-requires Inv-loop μ-loop
 put-if-compared-requires c κs =
-    let start = c .before .before .before .before .before .before .before in
-    let s = start .args in
-    let ready = start .pre .0 in
-    let here = c .before .loop-test .taken in (
-      list-links (s .p) (s .mask) (s .positions .now) (s .numbers .now) ready here,
-      (list-places (s .p) (s .mask) (s .positions .now) (s .numbers .now) ready here, list-room (s .p) (s .mask) (s .positions .now) (s .numbers .now) ready here (c .before .before .loop .inv .1) (start .pre .1)),
-    )
+    let start = c .before .before .before .before .before .before .before .before .before .before in
+    let here = c .before .loop-test .taken in
+    (start .pre .0, (here, list-room (slices start) (start .args .mask) (start .pre .1 .0) here (c .before .before .loop .inv .1) (start .pre .1 .1)))
 
 loop-again : tie.Need-loop-again Inv-loop μ-loop
 loop-again c =
-    let g = c .before .before .before .before .before in
-    let s = c .before .before .before .before .before .before .before .before .before .before .args in
-    (omega arith, go-turn (comparedLinks (s .p) (s .mask) (s .positions .now) (s .numbers .now)) (g .loop .l) (g .loop .inv .1) (c .before .before .put-if-compared .ensures))
+    let at = c .before .before .before .before .before .loop in
+    let start = c .before .before .before .before .before .before .before .before .before .before .before .before .before in
+    (omega arith, go-turn (comparedLinks (slices start) (start .args .mask)) (at .l) (at .inv .1) (c .before .before .put-if-compared .ensures))
 
 returns : tie.Need-returns Inv-loop μ-loop
 returns c =
-    let e : c .before .loop .l ≡ 2 * c .before .before .before .before .before .before .args .p .compared = omega arith in
+    let e : c .before .loop .l ≡ 2 * c .before .before .before .before .before .before .before .before .before .args .p .compared = omega arith in
     rw e at (c .before .loop .inv .1)
 
 pub put-compared-spec : {M : Type 1} → statement M
@@ -45,10 +48,10 @@ put-compared-spec =
     (tie.spec
     Inv-loop
     μ-loop
-    (λ c. search needs)
+    (λ c. omega (arith, c .before .before .before .before .before .before .before .pre .0 .tests .compared-high))
     loop-holds
     put-if-compared-requires
-    (λ c. search needs)
+    (λ c. omega (arith, c .before .before .before .before .before .before .before .before .before .before .before .before .before .pre .0 .tests .compared-high))
     (λ c. search needs)
     loop-again
     (λ c. search needs)
