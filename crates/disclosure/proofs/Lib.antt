@@ -1,1 +1,3 @@
-pub mod Unrefused
+pub mod Openings
+pub mod FullOpenings
+pub mod LinkedHalves

@@ -1,0 +1,1 @@
+-- The halves of ballots and of the entries linked to them, and the places of the latter.
