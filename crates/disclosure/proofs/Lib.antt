@@ -1,3 +1,4 @@
 pub mod Openings
 pub mod FullOpenings
 pub mod LinkedHalves
+pub mod Whole

@@ -39,8 +39,7 @@ fn place_if_compared(
     l: usize,
     places: &mut [u16],
 )
-    requires {
-        let s = given p (now ids) (now votes) (now numbers) (now permutations) (now keys) in
+    requires { let s = given p (now ids) (now votes) (now numbers) (now permutations) (now keys) in
         ⌜ Shaped s mask × ((l < lists p) × Placed s mask l (now places)) ⌝ }
     ensures { λ _.
         let s = given p (before ids) (before votes) (before numbers) (before permutations) (before keys) in
@@ -66,8 +65,7 @@ fn place_all(
     mask: u32,
     places: &mut [u16],
 )
-    requires {
-        let s = given p (now ids) (now votes) (now numbers) (now permutations) (now keys) in
+    requires { let s = given p (now ids) (now votes) (now numbers) (now permutations) (now keys) in
         ⌜ Shaped s mask × (p .compared * p .ballots ≤ length (now places)) ⌝ }
     ensures { λ _.
         let s = given p (before ids) (before votes) (before numbers) (before permutations) (before keys) in
@@ -97,8 +95,7 @@ fn put_if_compared(
     j: usize,
     side: u32,
 ) -> usize
-    requires {
-        let s = given p (now ids) (now votes) (now numbers) (now permutations) (now keys) in
+    requires { let s = given p (now ids) (now votes) (now numbers) (now permutations) (now keys) in
         ⌜ Shaped s mask × (Placed s mask (lists p) (now places)
         × ((l < lists p) × ((j < p .ballots) × ((side ≤ 1) × (at + bit mask l * 112 ≤ length (now out)))))) ⌝ }
     ensures { λ r.
@@ -133,8 +130,7 @@ fn put_linked(
     j: usize,
     side: u32,
 ) -> usize
-    requires {
-        let s = given p (now ids) (now votes) (now numbers) (now permutations) (now keys) in
+    requires { let s = given p (now ids) (now votes) (now numbers) (now permutations) (now keys) in
         ⌜ Shaped s mask × (Placed s mask (lists p) (now places)
         × ((j < p .ballots) × ((side ≤ 1) × (at + p .compared * 112 ≤ length (now out))))) ⌝ }
     ensures { λ r.
@@ -182,8 +178,7 @@ fn put_halves_of(
     j: usize,
     side: u32,
 ) -> usize
-    requires {
-        let s = given p (now ids) (now votes) (now numbers) (now permutations) (now keys) in
+    requires { let s = given p (now ids) (now votes) (now numbers) (now permutations) (now keys) in
         ⌜ Shaped s mask × (Placed s mask (lists p) (now places)
         × ((j < p .ballots) × ((side ≤ 1) × (at + (p .compared + 1) * 112 ≤ length (now out))))) ⌝ }
     ensures { λ r.
@@ -225,8 +220,7 @@ fn put_with(
     sides: &[u8],
     places: &[u16],
 ) -> usize
-    requires {
-        let s = given p (now ids) (now votes) (now numbers) (now permutations) (now keys) in
+    requires { let s = given p (now ids) (now votes) (now numbers) (now permutations) (now keys) in
         ⌜ Shaped s mask × (Sided s (now sides) × (Placed s mask (lists p) (now places)
         × (at + p .ballots * ((p .compared + 1) * 112) ≤ length (now out)))) ⌝ }
     ensures { λ r.
@@ -272,8 +266,7 @@ fn put_in(
     sides: &[u8],
     places: &mut [u16],
 ) -> usize
-    requires {
-        let s = given p (now ids) (now votes) (now numbers) (now permutations) (now keys) in
+    requires { let s = given p (now ids) (now votes) (now numbers) (now permutations) (now keys) in
         ⌜ Shaped s mask × (Sided s (now sides) × ((p .compared * p .ballots ≤ length (now places))
         × (at + p .ballots * ((p .compared + 1) * 112) ≤ length (now out)))) ⌝ }
     ensures { λ r.
@@ -310,8 +303,7 @@ pub fn put_halves(
     mask: u32,
     sides: &[u8],
 ) -> usize
-    requires {
-        let s = given p (now ids) (now votes) (now numbers) (now permutations) (now keys) in
+    requires { let s = given p (now ids) (now votes) (now numbers) (now permutations) (now keys) in
         ⌜ Shaped s mask × (Sided s (now sides) × (at + p .ballots * ((p .compared + 1) * 112) ≤ length (now out))) ⌝ }
     ensures { λ r.
         let s = inputsOf (given p (before ids) (before votes) (before numbers) (before permutations) (before keys)) in

@@ -1,3 +1,68 @@
-// Part three of a record, commands 06 to 0B.
+// Part three of a record, commands 06 to 0B: the second dice, the halves of all ballots and of the entries linked to them, the votes, the full
+// openings of the lists that are not compared, and the end.
+mod announced;
 mod halves;
 mod opened;
+
+ghost use mathlib.Core.Path.{_≡_};
+ghost use mathlib.Core.List.{[], _++_};
+ghost use Prim.Native.Nat.{_≤_};
+ghost use lib.ListN.{length};
+ghost use Rattle.laws.specs.Lent.{before, after};
+ghost use Rattle.protocol.specs.Terms.{mostBallots};
+ghost use Rattle.protocol.specs.Drawing as drawing;
+ghost use Rattle.protocol.specs.Drawing.{drawnSides};
+ghost use Rattle.protocol.specs.Inputs.{given};
+ghost use Rattle.protocol.specs.Servers.{thirdPart};
+ghost use Rattle.disclosure.specs.Disclosed.{Writable};
+use protocol::Parameters;
+
+// The whole part, of inputs that are not refused.
+pub fn write(
+    p: Parameters,
+    ids: &[u32],
+    votes: &[u32],
+    numbers: &[u32],
+    permutations: &[u16],
+    keys: &[u8],
+    dice: &[u8],
+    mask: u32,
+    sides: &[u8],
+    out: &mut [u8],
+)
+    requires { let s = given p (now ids) (now votes) (now numbers) (now permutations) (now keys) in
+        ⌜ Writable s (now dice) mask (now sides) (length (now out)) ⌝ }
+    ensures { λ _.
+        let s = given p (before ids) (before votes) (before numbers) (before permutations) (before keys) in
+        ⌜ after out ≡ thirdPart s (before dice) mask (before sides) ⌝ }
+{
+    let a = commands::put_second_dice(out, 0, dice);
+    let b = halves::put_halves(
+        out,
+        a,
+        p,
+        ids,
+        votes,
+        numbers,
+        permutations,
+        keys,
+        mask,
+        sides,
+    );
+    let c = announced::put_announced(out, b, votes);
+    let d = opened::put_opened(out, c, p, ids, votes, numbers, permutations, keys, mask);
+    commands::put_end(out, d);
+}
+
+// The sides drawn from the dice and parts one and two as lent.
+fn fill_sides(dice: &[u8], one: &[u8], two: &[u8], out: &mut [u8])
+    requires { ⌜ (length (now dice) ≡ 30) × (length (now out) ≤ mostBallots) ⌝ }
+    ensures { λ _. ⌜ after out ≡ drawnSides (length (before out)) (drawing.challenge (before dice) (before one ++ before two)) ⌝ }
+{
+    let text = challenge::text_of(dice, one, two);
+    let mut j: usize = 0;
+    while j < out.len() {
+        out[j] = challenge::drawn_side(&text, j) as u8;
+        j += 1;
+    }
+}

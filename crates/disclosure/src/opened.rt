@@ -28,8 +28,7 @@ fn put_full(
     keys: &[u8],
     l: usize,
 ) -> usize
-    requires {
-        let s = given p (now ids) (now votes) (now numbers) (now permutations) (now keys) in
+    requires { let s = given p (now ids) (now votes) (now numbers) (now permutations) (now keys) in
         ⌜ Passed s × ((l < lists p) × (at + p .ballots * 220 ≤ length (now out))) ⌝ }
     ensures { λ r.
         let s = inputsOf (given p (before ids) (before votes) (before numbers) (before permutations) (before keys)) in
@@ -61,8 +60,7 @@ fn put_if_opened(
     mask: u32,
     l: usize,
 ) -> usize
-    requires {
-        let s = given p (now ids) (now votes) (now numbers) (now permutations) (now keys) in
+    requires { let s = given p (now ids) (now votes) (now numbers) (now permutations) (now keys) in
         ⌜ Passed s × ((l < lists p) × (at + (1 - bit mask l) * (p .ballots * 220) ≤ length (now out))) ⌝ }
     ensures { λ r.
         let s = inputsOf (given p (before ids) (before votes) (before numbers) (before permutations) (before keys)) in
@@ -87,8 +85,7 @@ pub fn put_opened(
     keys: &[u8],
     mask: u32,
 ) -> usize
-    requires {
-        let s = given p (now ids) (now votes) (now numbers) (now permutations) (now keys) in
+    requires { let s = given p (now ids) (now votes) (now numbers) (now permutations) (now keys) in
         ⌜ Shaped s mask × (at + p .compared * (p .ballots * 220) ≤ length (now out)) ⌝ }
     ensures { λ r.
         let s = inputsOf (given p (before ids) (before votes) (before numbers) (before permutations) (before keys)) in
@@ -99,7 +96,18 @@ pub fn put_opened(
     let mut next = at;
     let mut l: usize = 0;
     while l < lists {
-        next = put_if_opened(out, next, p, ids, votes, numbers, permutations, keys, mask, l);
+        next = put_if_opened(
+            out,
+            next,
+            p,
+            ids,
+            votes,
+            numbers,
+            permutations,
+            keys,
+            mask,
+            l,
+        );
         l += 1;
     }
     next

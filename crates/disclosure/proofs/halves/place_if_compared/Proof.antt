@@ -1,77 +1,70 @@
+-- `halves::place_if_compared` meets its contract: by the list's bit of the mask.
+use mathlib.Core.Path.{_≡_, sym, ap, _∙_}
+use mathlib.Core.List.{List}
+use Prim.Native.Nat.{ℕ, _+_, _-_, _*_, _≤_}
+use native.Mathlib.Omega.{arith}
 use borrow.Author.Needs.{needs}
+use Rattle.laws.specs.Masks.{setBefore}
+use Rattle.laws.specs.Writing.{part-length}
+use Rattle.protocol.specs.Terms.{mostBallots}
+use Rattle.protocol.specs.Inputs.{Slices, given}
+use Rattle.mixing.proofs.Agreement.{places, in-list, position-same}
+use Rattle.disclosure.proofs.LinkedHalves.{list-passed, rank-end, rank-near, list-placed}
 use Rattle.disclosure.proofs.halves.place_if_compared.Statement.{statement}
 use Rattle.disclosure.proofs.halves.place_if_compared.Tie as tie
-use Rattle.disclosure.proofs.halves.place_if_compared.Reads as reads
-use Rattle.disclosure.proofs.halves.place_if_compared.Lts as lts
-use Rattle.disclosure.proofs.halves.rank.Reads as rank-reads
-use Rattle.mixing.proofs.fill_places.Reads as fill-places-reads
 
--- src/halves.rt:49:18
-cast-if1 : tie.Need-cast-if1
-cast-if1 c = search needs
+-- the slices that it is lent
+abbrev slices : tie.Start → Slices
+slices c =
+    let a = c .args in
+    given (a .p) (a .ids .now) (a .votes .now) (a .numbers .now) (a .permutations .now) (a .keys .now)
 
--- src/halves.rt:49:9
-shr-if1 : tie.Need-shr-if1
-shr-if1 c = search needs
-
--- src/halves.rt:50:9
 returns : tie.Need-returns
-returns c = ?
+returns c = let s = c .before .before .before .before .before .before .before in list-passed (slices s) (s .args .mask) {l = s .args .l} (c .if1 .taken) (s .pre .1 .1)
 
--- src/halves.rt:53:16
-rank-requires : tie.Need-rank-requires
-rank-requires c κs = search needs
+-- where the list's places end
+ends : (c : tie.After-rank) → (let a = c .before .before .before .before .before .before .before .before .args in c .rank .result * a .p .ballots + a .p .ballots ≤ a .p .compared * a .p .ballots)
+ends c = let s = c .before .before .before .before .before .before .before .before in rw (c .rank .ensures) (rank-end (slices s) (s .args .mask) (s .pre .0) (s .args .l) (s .pre .1 .0) (c .before .if1 .left))
 
--- src/halves.rt:53:16
-mul-from : tie.Need-mul-from
-mul-from c = ?
+near : (c : tie.After-rank) → (let a = c .before .before .before .before .before .before .before .before .args in a .p .compared * a .p .ballots ≤ 12 * mostBallots)
+near c = let s = c .before .before .before .before .before .before .before .before in rank-near (slices s) (s .args .mask) (s .pre .0) (s .args .l) (s .pre .1 .0) (c .before .if1 .left)
 
--- src/halves.rt:54:14
-add-to : tie.Need-add-to
-add-to c = ?
-
--- src/halves.rt:55:45
-mul-fill-places : tie.Need-mul-fill-places
-mul-fill-places c = ?
-
--- src/halves.rt:55:45
-sub-fill-places : tie.Need-sub-fill-places
-sub-fill-places c = search needs
-
--- src/halves.rt:55:45
-part-fill-places-start : tie.Need-part-fill-places-start
-part-fill-places-start c = search needs
-
--- src/halves.rt:55:45
-part-fill-places-end : tie.Need-part-fill-places-end
-part-fill-places-end c = ?
-
--- src/halves.rt:55:5
 fill-places-requires : tie.Need-fill-places-requires
-fill-places-requires c κs = ?
+fill-places-requires c κs =
+    let s = c .before .before .before .before .before .before .before .before .before in
+    let u = s .pre .0 .passed .tests in (
+      places (slices s) u,
+      (
+        in-list (slices s) u (s .pre .1 .0),
+        part-length (s .args .places .now) (c .before .rank .result * s .args .p .ballots) (s .args .p .ballots) (omega (arith, ends (c .before), s .pre .1 .1 .long)),
+      ),
+    )
 
--- src/halves.rt:31:1
-same-length : tie.Need-same-length
-same-length c = search needs
-
--- src/halves.rt:31:1
 returns-2 : tie.Need-returns-2
-returns-2 c = ?
+returns-2 c =
+    let s = c .before .before .before .before .before .before .before .before .before .before .before .before in
+    let r = c .before .before .before .before .rank .result in
+    let n : ℕ = s .args .p .ballots in
+    let filled : List ℕ = c .before .before .fill-places .last .1 .1 .1 .0 in
+    let done = c .before .before .fill-places .ensures in
+    let wide : r * n + n - r * n ≡ n = omega arith in
+    list-placed (slices s) (s .args .mask) (s .pre .0) (s .args .l) (s .pre .1 .0) (c .before .before .before .before .before .if1 .left) filled (r * n) (r * n + n - r * n) (s .pre .1 .1)
+    (ap (λ (x : ℕ). x * n) (c .before .before .before .before .rank .ensures)) wide (done .0) (λ j lj. done .1 j lj ∙ position-same (slices s) (s .args .l) j)
 
 pub place-if-compared-spec : {M : Type 1} → statement M
 place-if-compared-spec =
     tie.close
     (tie.spec
-    cast-if1
-    shr-if1
+    (λ c. omega (arith, c .before .before .before .before .before .before .pre .0 .passed .tests .compared-high))
+    (λ c. omega (arith, c .before .before .before .before .before .before .pre .0 .passed .tests .compared-high))
     returns
-    rank-requires
-    mul-from
-    add-to
-    mul-fill-places
-    sub-fill-places
-    part-fill-places-start
-    part-fill-places-end
+    (λ c κs. omega (arith, c .before .before .before .before .before .before .before .pre .0 .passed .tests .compared-high))
+    (λ c. omega (arith, ends c, near c))
+    (λ c. omega (arith, ends c, near c))
+    (λ c. omega (arith, ends c, near c))
+    (λ c. omega arith)
+    (λ c. omega arith)
+    (λ c. omega (arith, ends c, c .before .before .before .before .before .before .before .before .pre .1 .1 .long))
     fill-places-requires
-    same-length
+    (λ c. search needs)
     returns-2)

@@ -1,133 +1,110 @@
-use borrow.Author.Needs.{needs}
+-- `halves::put_if_compared` meets its contract: by the list's bit of the mask.
+use mathlib.Core.Path.{_≡_, ap, _∙_}
+use mathlib.Core.List.{[]}
+use Prim.Native.Nat.{ℕ, _+_, _*_, _≤_, _<_}
+use native.Mathlib.Omega.{arith}
+use lib.ListN.{length}
+use Rattle.laws.specs.Masks.{bit}
+use Rattle.laws.specs.Writing.{start, go-same, part-length}
+use Rattle.protocol.specs.Terms.{item, mostBallots}
+use Rattle.protocol.specs.Record.{listHalfCommand}
+use Rattle.protocol.specs.Inputs.{Slices, given, inputsOf}
+use Rattle.protocol.specs.Servers.{linkPosition, entryOpening}
+use Rattle.mixing.proofs.Agreement.{votes, numbers, places, in-list}
+use Rattle.disclosure.proofs.Openings.{entryKeysAt, entry-keys-end, place-small, list-half-is}
+use Rattle.disclosure.proofs.FullOpenings.{when-clear, when-set}
+use Rattle.disclosure.proofs.LinkedHalves.{rank-near, place-end, place-is, place-inside, linked-one, halfOf}
 use Rattle.disclosure.proofs.halves.put_if_compared.Statement.{statement}
 use Rattle.disclosure.proofs.halves.put_if_compared.Tie as tie
-use Rattle.disclosure.proofs.halves.put_if_compared.Reads as reads
-use Rattle.disclosure.proofs.halves.put_if_compared.Lts as lts
-use Rattle.commands.proofs.put_list_half.Reads as put-list-half-reads
-use Rattle.disclosure.proofs.halves.rank.Reads as rank-reads
-use Rattle.mixing.proofs.entry.Reads as entry-reads
 
--- src/halves.rt:110:18
-cast-if1 : tie.Need-cast-if1
-cast-if1 c = search needs
+-- the slices that it is lent
+abbrev slices : tie.Start → Slices
+slices c =
+    let a = c .args in
+    given (a .p) (a .ids .now) (a .votes .now) (a .numbers .now) (a .permutations .now) (a .keys .now)
 
--- src/halves.rt:110:9
-shr-if1 : tie.Need-shr-if1
-shr-if1 c = search needs
-
--- src/halves.rt:111:9
 returns : tie.Need-returns
-returns c = ?
+returns c = let a = c .before .before .before .before .before .before .before .before .args in when-clear (bit (a .mask) (a .l)) [] (halfOf (slices (c .before .before .before .before .before .before .before .before)) (a .j) (a .side) (a .l)) (c .if1 .taken) (start (a .out .now) (a .at) (omega arith))
 
--- src/halves.rt:114:20
-rank-requires : tie.Need-rank-requires
-rank-requires c κs = search needs
+-- the linked place as it is looked up
+abbrev place : tie.After-rank → ℕ
+place c = let a = c .before .before .before .before .before .before .before .before .before .args in item (a .places .now) (c .rank .result * a .p .ballots + a .j)
 
--- src/halves.rt:114:20
-mul-i : tie.Need-mul-i
-mul-i c = ?
+ends : (c : tie.After-rank) → (let a = c .before .before .before .before .before .before .before .before .before .args in (c .rank .result * a .p .ballots + a .j < a .p .compared * a .p .ballots) × (a .p .compared * a .p .ballots ≤ 12 * mostBallots))
+ends c =
+    let s = c .before .before .before .before .before .before .before .before .before in (
+      place-end (slices s) (s .args .mask) (s .pre .0) (s .args .l) (s .pre .1 .1 .0) (c .before .if1 .left) (s .pre .1 .0) (s .args .j) (c .rank .result) (s .pre .1 .1 .1 .0) (c .rank .ensures),
+      rank-near (slices s) (s .args .mask) (s .pre .0) (s .args .l) (s .pre .1 .1 .0) (c .before .if1 .left),
+    )
 
--- src/halves.rt:114:20
-add-i : tie.Need-add-i
-add-i c = ?
+found : (c : tie.After-rank) → (let a = c .before .before .before .before .before .before .before .before .before .args in place c ≡ linkPosition (inputsOf (slices (c .before .before .before .before .before .before .before .before .before))) (a .l) (a .j))
+found c =
+    let s = c .before .before .before .before .before .before .before .before .before in
+    place-is (slices s) (s .args .mask) (s .pre .0) (s .args .l) (s .pre .1 .1 .0) (c .before .if1 .left) (s .pre .1 .0) (s .args .j) (c .rank .result) (s .pre .1 .1 .1 .0) (c .rank .ensures)
 
--- src/halves.rt:114:13
-mul-i-2 : tie.Need-mul-i-2
-mul-i-2 c = ?
+inside : (c : tie.After-rank) → place c < c .before .before .before .before .before .before .before .before .before .args .p .ballots
+inside c =
+    let s = c .before .before .before .before .before .before .before .before .before in
+    place-inside (slices s) (s .args .mask) (s .pre .0) (s .args .l) (s .pre .1 .1 .0) (c .before .if1 .left) (s .pre .1 .0) (s .args .j) (c .rank .result) (s .pre .1 .1 .1 .0) (c .rank .ensures)
 
--- src/halves.rt:114:13
-shared-slice-read-i : tie.Need-shared-slice-read-i
-shared-slice-read-i c = ?
+-- its keys are not far, and end inside
+near : (c : tie.After-rank) → (let a = c .before .before .before .before .before .before .before .before .before .args in a .l * a .p .ballots + place c < 24 * mostBallots)
+near c = let s = c .before .before .before .before .before .before .before .before .before in place-small (slices s) (s .pre .0 .passed) (s .args .l) (place c) (s .pre .1 .1 .0) (inside c)
 
--- src/halves.rt:114:13
-cast-i : tie.Need-cast-i
-cast-i c = ?
+keys-end : (c : tie.After-rank) → (let a = c .before .before .before .before .before .before .before .before .before .args in entryKeysAt (a .p .ballots) (a .l) (place c) + 192 ≤ length (a .keys .now))
+keys-end c = let s = c .before .before .before .before .before .before .before .before .before in entry-keys-end (slices s) (s .pre .0 .passed) (s .args .l) (place c) (s .pre .1 .1 .0) (inside c)
 
--- src/halves.rt:115:16
-mul-from : tie.Need-mul-from
-mul-from c = search needs
-
--- src/halves.rt:115:47
-mul-from-2 : tie.Need-mul-from-2
-mul-from-2 c = ?
-
--- src/halves.rt:115:47
-add-from : tie.Need-add-from
-add-from c = ?
-
--- src/halves.rt:115:33
-mul-from-3 : tie.Need-mul-from-3
-mul-from-3 c = ?
-
--- src/halves.rt:115:16
-add-from-2 : tie.Need-add-from-2
-add-from-2 c = ?
-
--- src/halves.rt:116:14
-add-to : tie.Need-add-to
-add-to c = ?
-
--- src/halves.rt:117:9
 entry-requires : tie.Need-entry-requires
-entry-requires c κs = ?
+entry-requires c κs =
+    let s = c .before .before .before .before .before .before .before .before .before .before in
+    let u = s .pre .0 .passed .tests in
+    (votes (slices s) u, (numbers (slices s) u, (places (slices s) u, (in-list (slices s) u (s .pre .1 .1 .0), inside (c .before)))))
 
--- src/halves.rt:118:38
-cast-put-list-half : tie.Need-cast-put-list-half
-cast-put-list-half c = search needs
-
--- src/halves.rt:118:48
-cast-put-list-half-2 : tie.Need-cast-put-list-half-2
-cast-put-list-half-2 c = ?
-
--- src/halves.rt:118:69
-sub-put-list-half : tie.Need-sub-put-list-half
-sub-put-list-half c = search needs
-
--- src/halves.rt:118:69
-part-put-list-half-start : tie.Need-part-put-list-half-start
-part-put-list-half-start c = search needs
-
--- src/halves.rt:118:69
-part-put-list-half-end : tie.Need-part-put-list-half-end
-part-put-list-half-end c = ?
-
--- src/halves.rt:118:5
 put-list-half-requires : tie.Need-put-list-half-requires
-put-list-half-requires c κs = search needs
+put-list-half-requires c κs =
+    let s = c .before .before .before .before .before .before .before .before .before .before .before .before .before in (
+      s .pre .1 .1 .1 .1 .0,
+      (
+        part-length (s .args .keys .now) (entryKeysAt (s .args .p .ballots) (s .args .l) (place (c .before .before .before .before))) 192 (keys-end (c .before .before .before .before)),
+        linked-one (bit (s .args .mask) (s .args .l)) (s .args .at) 112 (c .before .before .before .before .before .if1 .left) (s .pre .1 .1 .1 .1 .1),
+      ),
+    )
 
--- src/halves.rt:85:1
-same-length : tie.Need-same-length
-same-length c = search needs
-
--- src/halves.rt:85:1
 returns-2 : tie.Need-returns-2
-returns-2 c = ?
+returns-2 c =
+    let s = c .before .before .before .before .before .before .before .before .before .before .before .before .before .before .before .before in
+    let a = s .args in
+    let t = slices s in
+    when-set (bit (a .mask) (a .l)) [] (halfOf t (a .j) (a .side) (a .l)) (c .before .before .before .before .before .before .before .before .if1 .left)
+    (go-same (c .before .before .put-list-half .ensures)
+    (list-half-is t (s .pre .0 .passed) _ (a .l) (place (c .before .before .before .before .before .before .before)) (a .side) (s .pre .1 .1 .1 .1 .0) (c .before .before .before .before .before .entry .ensures)
+    ∙ ap (λ (i : ℕ). listHalfCommand (a .l) i (λ k. entryOpening (inputsOf t) (a .l) i (2 * k + a .side))) (found (c .before .before .before .before .before .before .before))))
 
 pub put-if-compared-spec : {M : Type 1} → statement M
 put-if-compared-spec =
     tie.close
     (tie.spec
-    cast-if1
-    shr-if1
+    (λ c. omega (arith, c .before .before .before .before .before .before .before .pre .0 .passed .tests .compared-high))
+    (λ c. omega (arith, c .before .before .before .before .before .before .before .pre .0 .passed .tests .compared-high))
     returns
-    rank-requires
-    mul-i
-    add-i
-    mul-i-2
-    shared-slice-read-i
-    cast-i
-    mul-from
-    mul-from-2
-    add-from
-    mul-from-3
-    add-from-2
-    add-to
+    (λ c κs. omega (arith, c .before .before .before .before .before .before .before .before .pre .0 .passed .tests .compared-high))
+    (λ c. omega (arith, ends c))
+    (λ c. omega (arith, ends c))
+    (λ c. omega (arith, ends c))
+    (λ c. omega (arith, ends (c .before), c .before .before .before .before .before .before .before .before .before .before .pre .1 .0 .long))
+    (λ c. omega (arith, inside (c .before), c .before .before .before .before .before .before .before .before .before .before .pre .0 .passed .tests .ballots-high))
+    (λ c. omega (arith, near (c .before), c .before .before .before .before .before .before .before .before .before .before .pre .0 .passed .tests .ballots-high))
+    (λ c. omega (arith, near (c .before), c .before .before .before .before .before .before .before .before .before .before .pre .0 .passed .tests .ballots-high))
+    (λ c. omega (arith, near (c .before), c .before .before .before .before .before .before .before .before .before .before .pre .0 .passed .tests .ballots-high))
+    (λ c. omega (arith, near (c .before), c .before .before .before .before .before .before .before .before .before .before .pre .0 .passed .tests .ballots-high))
+    (λ c. omega (arith, near (c .before), c .before .before .before .before .before .before .before .before .before .before .pre .0 .passed .tests .ballots-high))
+    (λ c. omega (arith, near (c .before), c .before .before .before .before .before .before .before .before .before .before .pre .0 .passed .tests .ballots-high))
     entry-requires
-    cast-put-list-half
-    cast-put-list-half-2
-    sub-put-list-half
-    part-put-list-half-start
-    part-put-list-half-end
+    (λ c. omega (arith, c .before .before .before .before .before .before .before .before .before .before .before .before .pre .0 .passed .tests .compared-high))
+    (λ c. omega (arith, inside (c .before .before .before), c .before .before .before .before .before .before .before .before .before .before .before .before .pre .0 .passed .tests .ballots-high))
+    (λ c. omega arith)
+    (λ c. omega arith)
+    (λ c. omega (arith, keys-end (c .before .before .before)))
     put-list-half-requires
-    same-length
+    (λ c. omega arith)
     returns-2)
