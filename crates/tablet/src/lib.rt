@@ -1,13 +1,15 @@
 // The tablet: a vote in shares and halves, committed in a ballot command, and the receipt that is printed of it.
+ghost use mathlib.Core.List.{[]};
 ghost use mathlib.Core.Path.{_≡_};
 ghost use lib.ListN.{length};
 ghost use Rattle.laws.specs.Lent.{before, after};
 ghost use Rattle.protocol.specs.Tablet as tablets;
 ghost use Rattle.protocol.specs.Tablet.{tabletCommand, tabletRefusal};
-ghost use Rattle.protocol.specs.Inputs.{writtenOf, afterwards};
+ghost use Rattle.protocol.specs.Answers.{writtenAnswer, answerOf};
+ghost use Rattle.protocol.specs.Inputs.{afterwards};
 ghost use Rattle.tablet.specs.Ready.{CastReady};
+use protocol::Parameters;
 use protocol::Written;
-use writers::Split;
 
 // The number of the first rule that a vote, its numbers or the lengths of what is lent break; 0 where none is broken.
 fn refuse(
@@ -24,7 +26,7 @@ fn refuse(
 ) -> u32
     ensures { λ r. ⌜ r ≡ tabletRefusal modulus vote x y u1 u2 u3 «keys_len» «command_len» «receipt_len» ⌝ }
 {
-    if !inputs::modulus_in_limits(modulus) {
+    if !limits::modulus_in_limits(modulus) {
         return 3;
     }
     if keys_len != 192 {
@@ -37,7 +39,7 @@ fn refuse(
         return 18;
     }
     let numbers = [vote, x, y, u1, u2, u3];
-    if !inputs::all_below(modulus, &numbers) {
+    if !limits::all_below(modulus, &numbers) {
         return 10;
     }
     0
@@ -59,16 +61,16 @@ fn put_command(
     requires { ⌜ CastReady modulus vote x y u1 u2 u3 (length (now keys)) (length (now out)) ⌝ }
     ensures { λ _. ⌜ after out ≡ tabletCommand modulus id vote x y u1 u2 u3 (before keys) ⌝ }
 {
-    let rest = modular::minus(modulus, vote, x);
-    let z = modular::minus(modulus, rest, y);
+    let z = modular::less_two(modulus, vote, x, y);
     let value = [x, y, z];
     let first = [u1, u2, u3];
-    let split = Split {
+    let six = shares::split(modulus, value, first);
+    let p = Parameters {
         modulus,
-        value,
-        first,
+        ballots: 0,
+        compared: 0,
     };
-    writers::put_ballot(out, 0, id, split, keys);
+    commands::put_ballot(out, 0, p, id, six, keys);
 }
 
 // The receipt of a ballot command: its id and its hash.
@@ -96,9 +98,13 @@ pub fn cast(
     command: &mut [u8],
     receipt: &mut [u8],
 ) -> Written
-    ensures answer { λ r. ⌜ r ≡ writtenOf (tabletRefusal modulus vote x y u1 u2 u3 (length (before keys)) (length (before command)) (length (before receipt))) ⌝ }
-    ensures command { λ _. ⌜ after command ≡ afterwards (tabletRefusal modulus vote x y u1 u2 u3 (length (before keys)) (length (before command)) (length (before receipt))) (before command) (tabletCommand modulus id vote x y u1 u2 u3 (before keys)) ⌝ }
-    ensures receipt { λ _. ⌜ after receipt ≡ afterwards (tabletRefusal modulus vote x y u1 u2 u3 (length (before keys)) (length (before command)) (length (before receipt))) (before receipt) (tablets.receipt id (tabletCommand modulus id vote x y u1 u2 u3 (before keys))) ⌝ }
+    ensures { λ r.
+        let refused = tabletRefusal modulus vote x y u1 u2 u3 in
+        let k = refused (length (before keys)) (length (before command)) (length (before receipt)) in
+        let posted = tabletCommand modulus id vote x y u1 u2 u3 (before keys) in
+        let printed = tablets.receipt id posted in
+        ⌜ (writtenAnswer r ≡ answerOf k [])
+        × ((after command ≡ afterwards k (before command) posted) × (after receipt ≡ afterwards k (before receipt) printed)) ⌝ }
 {
     let k = refuse(
         modulus,

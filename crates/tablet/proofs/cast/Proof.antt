@@ -2,7 +2,7 @@
 use mathlib.Core.Path.{ap, _∙_}
 use borrow.Author.Needs.{needs}
 use Rattle.protocol.specs.Tablet.{tabletCommand, receipt}
-use Rattle.inputs.proofs.Endings.{refused, done}
+use Rattle.protocol.proofs.Answered.{unwritten, wrote}
 use Rattle.tablet.proofs.Unrefused.{cast-ready}
 use Rattle.tablet.proofs.cast.Statement.{statement}
 use Rattle.tablet.proofs.cast.Tie as tie
@@ -12,8 +12,8 @@ returns c =
     let r = c .before .refuse .ensures in
     let s = c .before .before .before .before .before .args in
     let written = tabletCommand (s .modulus) (s .id) (s .vote) (s .x) (s .y) (s .u1) (s .u2) (s .u3) (s .keys .now) in
-    let at-command = refused _ _ (s .command .now) written r (c .if1 .taken) in
-    (at-command .0, (at-command .1, refused _ _ (s .receipt .now) (receipt (s .id) written) r (c .if1 .taken) .1))
+    let at-command = unwritten _ _ (s .command .now) written r (c .if1 .taken) in
+    (at-command .0, (at-command .1, unwritten _ _ (s .receipt .now) (receipt (s .id) written) r (c .if1 .taken) .1))
 
 put-command-requires : tie.Need-put-command-requires
 put-command-requires c κs = cast-ready _ _ _ _ _ _ _ _ _ _ _ (c .before .before .refuse .ensures) (c .before .if1 .left) .0
@@ -27,8 +27,8 @@ returns-2 c =
     let s = c .before .before .before .before .before .before .before .before .before .before .before .before .before .before .args in
     let z = c .before .before .before .before .before .before .before .before .before .if1 .left in
     let command = c .before .before .before .before .before .before .before .put-command .ensures in
-    let at-command = done _ _ (s .command .now) _ _ r z command in
-    (at-command .0, (at-command .1, done _ _ (s .receipt .now) _ _ r z (c .before .before .put-receipt .ensures ∙ ap (receipt (s .id)) command) .1))
+    let at-command = wrote _ _ (s .command .now) _ _ r z command in
+    (at-command .0, (at-command .1, wrote _ _ (s .receipt .now) _ _ r z (c .before .before .put-receipt .ensures ∙ ap (receipt (s .id)) command) .1))
 
 pub cast-spec : {M : Type 1} → statement M
 cast-spec =
