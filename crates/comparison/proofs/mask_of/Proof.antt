@@ -13,4 +13,4 @@ returns c =
 
 pub mask-of-spec : {M : Type 1} → statement M
 mask-of-spec =
-    tie.close (tie.spec (λ c. search needs) (λ c κs. search needs) (λ c κs. search needs) returns)
+    tie.close (tie.spec (λ c. search needs) (λ c κs. search needs) (λ c. search needs) (λ c κs. search needs) returns)

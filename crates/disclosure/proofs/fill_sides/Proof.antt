@@ -39,6 +39,7 @@ fill-sides-spec =
     μ-loop
     (λ c κs. search needs)
     loop-holds
+    (λ c. search needs)
     (λ c κs. omega arith)
     (λ c. omega arith)
     (λ c. omega arith)
