@@ -1,7 +1,7 @@
 // The functions that C and Rust programs link, each a thin face of a proved one. A slice is a pointer and a length.
 ghost use mathlib.Core.Bool.{true, false};
 ghost use mathlib.Core.Path.{_≡_};
-ghost use mathlib.Core.List.{_++_};
+ghost use mathlib.Core.List.{[], _++_};
 ghost use lib.ListN.{length};
 ghost use Rattle.laws.specs.Faults.{numberOf};
 ghost use Rattle.laws.specs.Lent.{before, after};
@@ -12,15 +12,15 @@ ghost use Rattle.protocol.specs.Terms.{parameters};
 ghost use Rattle.protocol.specs.Tablet as tablets;
 ghost use Rattle.protocol.specs.Tablet.{tabletCommand, tabletRefusal};
 ghost use Rattle.protocol.specs.Columns.{rowServer, thirdOffsets, secondHalves, rowRefusal, pairRefusal};
-ghost use Rattle.protocol.specs.Answers.{writtenNumber};
+ghost use Rattle.protocol.specs.Answers.{answerOf, writtenAnswer, receiptAnswer};
 ghost use Rattle.protocol.specs.Drawing.{challenge, drawnMask};
 ghost use Rattle.protocol.specs.Inputs.{given, partOneRefusal, partTwoRefusal, partTwoDrawnRefusal, partThreeRefusal, partThreeDrawnRefusal, afterwards};
 ghost use Rattle.protocol.specs.Servers.{firstPart, secondPart, maskFor, thirdPart, sidesFor};
 ghost use Rattle.protocol.specs.Judging.{firstFault};
-ghost use Rattle.protocol.specs.Election.{electionTwo, electionThree, electionRecord};
-ghost use Rattle.election.specs.Holding.{choiceOf, electionRefusal};
+ghost use Rattle.protocol.specs.Election.{choiceOf};
+ghost use Rattle.election.specs.Holding.{lent, buffers, Held};
 ghost use Rattle.protocol.specs.Results.{receiptChecked, announcedVotes, announcedRefusal, distinctVotes, voteCounts, tallyRefusal, inFront, drawRefusal};
-ghost use Rattle.paddockyear.specs.Codes.{receiptCode, placeIn, outcomeNumber};
+ghost use Rattle.paddockyear.specs.Codes.{codeOf, receiptCode, placeIn, outcomeCode};
 use election::Outcome;
 use laws::Found;
 use protocol::Draw;
@@ -74,7 +74,7 @@ pub extern "C" fn paddockyear_sha3_256_parts(a: &[u8], b: &[u8], c: &[u8], out: 
 
 // A writer's answer: 0, or the refusal's number.
 fn written_code(w: Written) -> u32
-    ensures { λ r. ⌜ r ≡ writtenNumber w ⌝ }
+    ensures { λ r. ⌜ r ≡ codeOf (writtenAnswer w) ⌝ }
 {
     match w {
         Written::Done => 0,
@@ -97,9 +97,12 @@ pub extern "C" fn paddockyear_tablet(
     command: &mut [u8],
     receipt: &mut [u8],
 ) -> u32
-    ensures answer { λ r. ⌜ r ≡ tabletRefusal modulus vote x y u1 u2 u3 (length (before keys)) (length (before command)) (length (before receipt)) ⌝ }
-    ensures command { λ _. ⌜ after command ≡ afterwards (tabletRefusal modulus vote x y u1 u2 u3 (length (before keys)) (length (before command)) (length (before receipt))) (before command) (tabletCommand modulus id vote x y u1 u2 u3 (before keys)) ⌝ }
-    ensures receipt { λ _. ⌜ after receipt ≡ afterwards (tabletRefusal modulus vote x y u1 u2 u3 (length (before keys)) (length (before command)) (length (before receipt))) (before receipt) (tablets.receipt id (tabletCommand modulus id vote x y u1 u2 u3 (before keys))) ⌝ }
+    ensures { λ r.
+        let refused = tabletRefusal modulus vote x y u1 u2 u3 in
+        let k = refused (length (before keys)) (length (before command)) (length (before receipt)) in
+        let posted = tabletCommand modulus id vote x y u1 u2 u3 (before keys) in
+        let printed = tablets.receipt id posted in
+        ⌜ (r ≡ k) × ((after command ≡ afterwards k (before command) posted) × (after receipt ≡ afterwards k (before receipt) printed)) ⌝ }
 {
     written_code(tablet::cast(modulus, id, vote, x, y, u1, u2, u3, keys, command, receipt))
 }
@@ -114,10 +117,12 @@ pub extern "C" fn paddockyear_row_server(
     permutation: &[u16],
     out: &mut [u32],
 ) -> u32
-    ensures answer { λ r. ⌜ r ≡ rowRefusal modulus n (before numbers) (before offsets) (before permutation) (length (before out)) ⌝ }
-    ensures output { λ _. ⌜ after out ≡ afterwards (rowRefusal modulus n (before numbers) (before offsets) (before permutation) (length (before out))) (before out) (rowServer modulus (before numbers) (before offsets) (before permutation)) ⌝ }
+    ensures { λ r.
+        let k = rowRefusal modulus n (before numbers) (before offsets) (before permutation) (length (before out)) in
+        let mixed = rowServer modulus (before numbers) (before offsets) (before permutation) in
+        ⌜ (r ≡ k) × (after out ≡ afterwards k (before out) mixed) ⌝ }
 {
-    written_code(mixnet::row_server(modulus, n, numbers, offsets, permutation, out))
+    written_code(columns::row_server(modulus, n, numbers, offsets, permutation, out))
 }
 
 // Row three's offsets.
@@ -129,10 +134,12 @@ pub extern "C" fn paddockyear_third_row_offsets(
     second: &[u32],
     out: &mut [u32],
 ) -> u32
-    ensures answer { λ r. ⌜ r ≡ pairRefusal modulus n (before first) (before second) (length (before out)) ⌝ }
-    ensures output { λ _. ⌜ after out ≡ afterwards (pairRefusal modulus n (before first) (before second) (length (before out))) (before out) (thirdOffsets modulus (before first) (before second)) ⌝ }
+    ensures { λ r.
+        let k = pairRefusal modulus n (before first) (before second) (length (before out)) in
+        let offsets = thirdOffsets modulus (before first) (before second) in
+        ⌜ (r ≡ k) × (after out ≡ afterwards k (before out) offsets) ⌝ }
 {
-    written_code(mixnet::third_row_offsets(modulus, n, first, second, out))
+    written_code(columns::third_row_offsets(modulus, n, first, second, out))
 }
 
 // The split of a row.
@@ -144,10 +151,12 @@ pub extern "C" fn paddockyear_split(
     first_halves: &[u32],
     out: &mut [u32],
 ) -> u32
-    ensures answer { λ r. ⌜ r ≡ pairRefusal modulus n (before numbers) (before «first_halves») (length (before out)) ⌝ }
-    ensures output { λ _. ⌜ after out ≡ afterwards (pairRefusal modulus n (before numbers) (before «first_halves») (length (before out))) (before out) (secondHalves modulus (before numbers) (before «first_halves»)) ⌝ }
+    ensures { λ r.
+        let k = pairRefusal modulus n (before numbers) (before «first_halves») (length (before out)) in
+        let halves = secondHalves modulus (before numbers) (before «first_halves») in
+        ⌜ (r ≡ k) × (after out ≡ afterwards k (before out) halves) ⌝ }
 {
-    written_code(mixnet::split(modulus, n, numbers, first_halves, out))
+    written_code(columns::split(modulus, n, numbers, first_halves, out))
 }
 
 // ---- the record writer
@@ -165,8 +174,11 @@ pub extern "C" fn paddockyear_part_one(
     keys: &[u8],
     out: &mut [u8],
 ) -> u32
-    ensures answer { λ r. ⌜ r ≡ partOneRefusal (given (parameters modulus ballots compared) (before ids) (before votes) (before numbers) (before permutations) (before keys)) (length (before out)) ⌝ }
-    ensures output { λ _. ⌜ after out ≡ afterwards (partOneRefusal (given (parameters modulus ballots compared) (before ids) (before votes) (before numbers) (before permutations) (before keys)) (length (before out))) (before out) (firstPart (given (parameters modulus ballots compared) (before ids) (before votes) (before numbers) (before permutations) (before keys))) ⌝ }
+    ensures { λ r.
+        let p = parameters modulus ballots compared in
+        let s = given p (before ids) (before votes) (before numbers) (before permutations) (before keys) in
+        let k = partOneRefusal s (length (before out)) in
+        ⌜ (r ≡ k) × (after out ≡ afterwards k (before out) (firstPart s)) ⌝ }
 {
     written_code(board::part_one(
         modulus,
@@ -196,8 +208,11 @@ pub extern "C" fn paddockyear_part_two(
     mask: u32,
     out: &mut [u8],
 ) -> u32
-    ensures answer { λ r. ⌜ r ≡ partTwoRefusal (given (parameters modulus ballots compared) (before ids) (before votes) (before numbers) (before permutations) (before keys)) (before dice) mask (length (before out)) ⌝ }
-    ensures output { λ _. ⌜ after out ≡ afterwards (partTwoRefusal (given (parameters modulus ballots compared) (before ids) (before votes) (before numbers) (before permutations) (before keys)) (before dice) mask (length (before out))) (before out) (secondPart (given (parameters modulus ballots compared) (before ids) (before votes) (before numbers) (before permutations) (before keys)) (before dice) mask) ⌝ }
+    ensures { λ r.
+        let p = parameters modulus ballots compared in
+        let s = given p (before ids) (before votes) (before numbers) (before permutations) (before keys) in
+        let k = partTwoRefusal s (before dice) mask (length (before out)) in
+        ⌜ (r ≡ k) × (after out ≡ afterwards k (before out) (secondPart s (before dice) mask)) ⌝ }
 {
     written_code(comparison::part_two(
         modulus,
@@ -229,8 +244,12 @@ pub extern "C" fn paddockyear_part_two_drawn(
     one: &[u8],
     out: &mut [u8],
 ) -> u32
-    ensures answer { λ r. ⌜ r ≡ partTwoDrawnRefusal (given (parameters modulus ballots compared) (before ids) (before votes) (before numbers) (before permutations) (before keys)) (before dice) (length (before one)) (length (before out)) ⌝ }
-    ensures output { λ _. ⌜ after out ≡ afterwards (partTwoDrawnRefusal (given (parameters modulus ballots compared) (before ids) (before votes) (before numbers) (before permutations) (before keys)) (before dice) (length (before one)) (length (before out))) (before out) (secondPart (given (parameters modulus ballots compared) (before ids) (before votes) (before numbers) (before permutations) (before keys)) (before dice) (maskFor (given (parameters modulus ballots compared) (before ids) (before votes) (before numbers) (before permutations) (before keys)) (before dice) (before one))) ⌝ }
+    ensures { λ r.
+        let p = parameters modulus ballots compared in
+        let s = given p (before ids) (before votes) (before numbers) (before permutations) (before keys) in
+        let k = partTwoDrawnRefusal s (before dice) (length (before one)) (length (before out)) in
+        let two = secondPart s (before dice) (maskFor s (before dice) (before one)) in
+        ⌜ (r ≡ k) × (after out ≡ afterwards k (before out) two) ⌝ }
 {
     written_code(comparison::part_two_drawn(
         modulus,
@@ -263,8 +282,11 @@ pub extern "C" fn paddockyear_part_three(
     sides: &[u8],
     out: &mut [u8],
 ) -> u32
-    ensures answer { λ r. ⌜ r ≡ partThreeRefusal (given (parameters modulus ballots compared) (before ids) (before votes) (before numbers) (before permutations) (before keys)) (before dice) mask (before sides) (length (before out)) ⌝ }
-    ensures output { λ _. ⌜ after out ≡ afterwards (partThreeRefusal (given (parameters modulus ballots compared) (before ids) (before votes) (before numbers) (before permutations) (before keys)) (before dice) mask (before sides) (length (before out))) (before out) (thirdPart (given (parameters modulus ballots compared) (before ids) (before votes) (before numbers) (before permutations) (before keys)) (before dice) mask (before sides)) ⌝ }
+    ensures { λ r.
+        let p = parameters modulus ballots compared in
+        let s = given p (before ids) (before votes) (before numbers) (before permutations) (before keys) in
+        let k = partThreeRefusal s (before dice) mask (before sides) (length (before out)) in
+        ⌜ (r ≡ k) × (after out ≡ afterwards k (before out) (thirdPart s (before dice) mask (before sides))) ⌝ }
 {
     written_code(disclosure::part_three(
         modulus,
@@ -299,8 +321,12 @@ pub extern "C" fn paddockyear_part_three_drawn(
     two: &[u8],
     out: &mut [u8],
 ) -> u32
-    ensures answer { λ r. ⌜ r ≡ partThreeDrawnRefusal (given (parameters modulus ballots compared) (before ids) (before votes) (before numbers) (before permutations) (before keys)) (before dice) mask (length (before one)) (length (before two)) (length (before out)) ⌝ }
-    ensures output { λ _. ⌜ after out ≡ afterwards (partThreeDrawnRefusal (given (parameters modulus ballots compared) (before ids) (before votes) (before numbers) (before permutations) (before keys)) (before dice) mask (length (before one)) (length (before two)) (length (before out))) (before out) (thirdPart (given (parameters modulus ballots compared) (before ids) (before votes) (before numbers) (before permutations) (before keys)) (before dice) mask (sidesFor (given (parameters modulus ballots compared) (before ids) (before votes) (before numbers) (before permutations) (before keys)) (before dice) (before one) (before two))) ⌝ }
+    ensures { λ r.
+        let p = parameters modulus ballots compared in
+        let s = given p (before ids) (before votes) (before numbers) (before permutations) (before keys) in
+        let k = partThreeDrawnRefusal s (before dice) mask (length (before one)) (length (before two)) (length (before out)) in
+        let three = thirdPart s (before dice) mask (sidesFor s (before dice) (before one) (before two)) in
+        ⌜ (r ≡ k) × (after out ≡ afterwards k (before out) three) ⌝ }
 {
     written_code(disclosure::part_three_drawn(
         modulus,
@@ -329,8 +355,10 @@ pub extern "C" fn paddockyear_draw_mask(
     one: &[u8],
     mask: &mut u32,
 ) -> u32
-    ensures answer { λ r. ⌜ r ≡ drawRefusal (record { modulus = modulus; ballots = ballots; compared = compared }) (before dice) (length (before one)) ⌝ }
-    ensures mask { λ _. ⌜ after mask ≡ choose (drawRefusal (record { modulus = modulus; ballots = ballots; compared = compared }) (before dice) (length (before one))) (drawnMask compared (challenge (before dice) (before one))) (before mask) ⌝ }
+    ensures { λ r.
+        let k = drawRefusal (parameters modulus ballots compared) (before dice) (length (before one)) in
+        let drawn = drawnMask compared (challenge (before dice) (before one)) in
+        ⌜ (r ≡ k) × (after mask ≡ choose k drawn (before mask)) ⌝ }
 {
     match comparison::draw(modulus, ballots, compared, dice, one) {
         Draw::Refused(k) => k,
@@ -343,7 +371,7 @@ pub extern "C" fn paddockyear_draw_mask(
 
 // An election's answer: 0 for accepted, else the number.
 fn outcome_code(o: Outcome) -> u32
-    ensures { λ r. ⌜ r ≡ outcomeNumber o ⌝ }
+    ensures { λ r. ⌜ r ≡ outcomeCode o ⌝ }
 {
     match o {
         Outcome::Accepted => 0,
@@ -375,11 +403,15 @@ pub extern "C" fn paddockyear_election(
     three: &mut [u8],
     joined: &mut [u8],
 ) -> u32
-    ensures answer { λ r. ⌜ r ≡ (electionRefusal (given (parameters modulus ballots compared) (before ids) (before votes) (before numbers) (before permutations) (before keys)) (choiceOf (differ «mask_given» 0) mask) (before «first_dice») (choiceOf (differ «sides_given» 0) (before sides)) (before «second_dice») (length (before one)) (length (before two)) (length (before three)) (length (before joined))) ⌝ }
-    ensures one { λ _. ⌜ after one ≡ afterwards (electionRefusal (given (parameters modulus ballots compared) (before ids) (before votes) (before numbers) (before permutations) (before keys)) (choiceOf (differ «mask_given» 0) mask) (before «first_dice») (choiceOf (differ «sides_given» 0) (before sides)) (before «second_dice») (length (before one)) (length (before two)) (length (before three)) (length (before joined))) (before one) (firstPart (given (parameters modulus ballots compared) (before ids) (before votes) (before numbers) (before permutations) (before keys))) ⌝ }
-    ensures two { λ _. ⌜ after two ≡ afterwards (electionRefusal (given (parameters modulus ballots compared) (before ids) (before votes) (before numbers) (before permutations) (before keys)) (choiceOf (differ «mask_given» 0) mask) (before «first_dice») (choiceOf (differ «sides_given» 0) (before sides)) (before «second_dice») (length (before one)) (length (before two)) (length (before three)) (length (before joined))) (before two) (electionTwo (given (parameters modulus ballots compared) (before ids) (before votes) (before numbers) (before permutations) (before keys)) (choiceOf (differ «mask_given» 0) mask) (before «first_dice»)) ⌝ }
-    ensures three { λ _. ⌜ after three ≡ afterwards (electionRefusal (given (parameters modulus ballots compared) (before ids) (before votes) (before numbers) (before permutations) (before keys)) (choiceOf (differ «mask_given» 0) mask) (before «first_dice») (choiceOf (differ «sides_given» 0) (before sides)) (before «second_dice») (length (before one)) (length (before two)) (length (before three)) (length (before joined))) (before three) (electionThree (given (parameters modulus ballots compared) (before ids) (before votes) (before numbers) (before permutations) (before keys)) (choiceOf (differ «mask_given» 0) mask) (before «first_dice») (choiceOf (differ «sides_given» 0) (before sides)) (before «second_dice»)) ⌝ }
-    ensures joined { λ _. ⌜ after joined ≡ afterwards (electionRefusal (given (parameters modulus ballots compared) (before ids) (before votes) (before numbers) (before permutations) (before keys)) (choiceOf (differ «mask_given» 0) mask) (before «first_dice») (choiceOf (differ «sides_given» 0) (before sides)) (before «second_dice») (length (before one)) (length (before two)) (length (before three)) (length (before joined))) (before joined) (electionRecord (given (parameters modulus ballots compared) (before ids) (before votes) (before numbers) (before permutations) (before keys)) (choiceOf (differ «mask_given» 0) mask) (before «first_dice») (choiceOf (differ «sides_given» 0) (before sides)) (before «second_dice»)) ⌝ }
+    ensures { λ r.
+        let p = parameters modulus ballots compared in
+        let s = given p (before ids) (before votes) (before numbers) (before permutations) (before keys) in
+        let byMask = choiceOf (differ «mask_given» 0) mask in
+        let bySides = choiceOf (differ «sides_given» 0) (before sides) in
+        let e = lent s byMask (before «first_dice») bySides (before «second_dice») in
+        let was = buffers (before one) (before two) (before three) (before joined) in
+        let is = buffers (after one) (after two) (after three) (after joined) in
+        ⌜ Held e was is (answerOf r []) ⌝ }
 {
     outcome_code(election::hold(
         mask_given != 0,
@@ -435,8 +467,9 @@ pub extern "C" fn paddockyear_judge_as_drawn(bytes: &[u8]) -> u32
 // judging.
 #[no_mangle]
 pub extern "C" fn paddockyear_first_fault(bytes: &[u8], drawn: u32, place: &mut u64) -> u32
-    ensures number { λ r. ⌜ r ≡ numberOf (firstFault (differ drawn 0) (before bytes)) ⌝ }
-    ensures place { λ _. ⌜ after place ≡ placeIn (firstFault (differ drawn 0) (before bytes)) (before place) ⌝ }
+    ensures { λ r.
+        let found = firstFault (differ drawn 0) (before bytes) in
+        ⌜ (r ≡ numberOf found) × (after place ≡ placeIn found (before place)) ⌝ }
 {
     match verifier::first_fault(bytes, drawn != 0) {
         Found::Nothing => 0,
@@ -452,15 +485,18 @@ pub extern "C" fn paddockyear_first_fault(bytes: &[u8], drawn: u32, place: &mut 
 pub extern "C" fn paddockyear_tally(
     votes: &[u32],
     values: &mut [u32],
-    counts: &mut [u32],
+    counts: &mut [u64],
     pairs: &mut u64,
 ) -> u32
-    ensures answer { λ r. ⌜ r ≡ tallyRefusal (before votes) (length (before values)) (length (before counts)) ⌝ }
-    ensures pairs { λ _. ⌜ after pairs ≡ choose (tallyRefusal (before votes) (length (before values)) (length (before counts))) (length (distinctVotes (before votes))) (before pairs) ⌝ }
-    ensures values { λ _. ⌜ after values ≡ afterwards (tallyRefusal (before votes) (length (before values)) (length (before counts))) (before values) (inFront (distinctVotes (before votes)) (before values)) ⌝ }
-    ensures counts { λ _. ⌜ after counts ≡ afterwards (tallyRefusal (before votes) (length (before values)) (length (before counts))) (before counts) (inFront (voteCounts (before votes)) (before counts)) ⌝ }
+    ensures { λ r.
+        let k = tallyRefusal (before votes) (length (before values)) (length (before counts)) in
+        let written = inFront (distinctVotes (before votes)) (before values) in
+        let counted = inFront (voteCounts (before votes)) (before counts) in
+        ⌜ (r ≡ k)
+        × ((after pairs ≡ choose k (length (distinctVotes (before votes))) (before pairs))
+        × ((after values ≡ afterwards k (before values) written) × (after counts ≡ afterwards k (before counts) counted))) ⌝ }
 {
-    match tally::tally(votes, values, counts) {
+    match results::tally::tally(votes, values, counts) {
         Tally::Refused(k) => k,
         Tally::Pairs(k) => {
             *pairs = k as u64;
@@ -476,11 +512,11 @@ pub extern "C" fn paddockyear_tally(
 pub extern "C" fn paddockyear_check_receipt(bytes: &[u8], printed: &[u8]) -> u32
     ensures { λ r. ⌜ r ≡ receiptCode (receiptChecked (before bytes) (before printed)) ⌝ }
 {
-    receipt_code(results::check_receipt(bytes, printed))
+    receipt_code(results::receipts::check_receipt(bytes, printed))
 }
 
 fn receipt_code(answer: Receipt) -> u32
-    ensures { λ r. ⌜ r ≡ receiptCode answer ⌝ }
+    ensures { λ r. ⌜ r ≡ receiptCode (receiptAnswer answer) ⌝ }
 {
     match answer {
         Receipt::AsPrinted => 0,
@@ -493,8 +529,9 @@ fn receipt_code(answer: Receipt) -> u32
 // The announced votes of an accepted record.
 #[no_mangle]
 pub extern "C" fn paddockyear_announced_votes(bytes: &[u8], out: &mut [u32]) -> u32
-    ensures answer { λ r. ⌜ r ≡ announcedRefusal (before bytes) (length (before out)) ⌝ }
-    ensures output { λ _. ⌜ after out ≡ afterwards (announcedRefusal (before bytes) (length (before out))) (before out) (announcedVotes (before bytes)) ⌝ }
+    ensures { λ r.
+        let k = announcedRefusal (before bytes) (length (before out)) in
+        ⌜ (r ≡ k) × (after out ≡ afterwards k (before out) (announcedVotes (before bytes))) ⌝ }
 {
-    written_code(results::announced_votes(bytes, out))
+    written_code(results::votes::announced_votes(bytes, out))
 }

@@ -1,7 +1,7 @@
 -- `paddockyear::paddockyear_election` meets its contract: it answers the number of what the entry answers.
 use borrow.Author.Needs.{needs}
 use Rattle.laws.specs.Tests.{differ}
-use Rattle.paddockyear.specs.Codes.{outcome-code}
+use Rattle.paddockyear.specs.Codes.{outcome-answer}
 use Rattle.paddockyear.proofs.paddockyear_election.Statement.{statement}
 use Rattle.paddockyear.proofs.paddockyear_election.Tie as tie
 
@@ -9,7 +9,7 @@ returns : tie.Need-returns
 unfolding differ
 returns c =
     let held = c .before .before .before .before .before .before .before .before .before .hold .ensures in
-    (outcome-code _ _ (held .0) (held .1 .1 .1 .1 .1 .0) (c .outcome-code .ensures), (held .1 .0, (held .1 .1 .0, (held .1 .1 .1 .0, held .1 .1 .1 .1 .0))))
+    rw (outcome-answer _ _ (held .answers) (held .accepts) (c .outcome-code .ensures)) held
 
 pub paddockyear-election-spec : {M : Type 1} → statement M
 paddockyear-election-spec =
