@@ -1,9 +1,9 @@
 //! Calls of public functions as no face makes them, so that their edits are tried on these too;
-//! with the feature `edited`. The programs alone call `put_line`, `ballots` and `judge_as_drawn`.
+//! with the feature `edited`. The program alone calls `put_result`.
 
 use paddockyear_tests::boards::samples::files;
 use paddockyear_tests::edited::protocol::Verdict;
-use paddockyear_tests::edited::{results, tally, verifier, wire};
+use paddockyear_tests::edited::{results, verifier, wire};
 
 #[test]
 fn slices_of_two_lengths() {
@@ -13,16 +13,12 @@ fn slices_of_two_lengths() {
 }
 
 #[test]
-fn a_line_of_the_tally() {
-    let mut line = [0u8; 22];
-    let end = tally::put_line(&mut line, 0, 7, 12);
-    assert_eq!(&line[..end], b"7 12\n");
-}
-
-#[test]
-fn ballots_of_a_record() {
-    assert_eq!(results::ballots(&[1, 0, 0, 0, 5, 0, 3, 2]), 3);
-    assert_eq!(results::ballots(&[1, 0, 0, 0, 5, 0, 3]), 0);
+fn lines_of_the_tally() {
+    let (_, board) = files().into_iter().find(|(name, _)| name == "eight-ballots.board").unwrap();
+    let mut out = vec![0u8; 5 + 22 * 1024];
+    let end = results::page::put_result(&board, &mut out, 5);
+    assert_eq!(&out[5..end], b"1 3\n34 2\n51 1\n86 2\n");
+    assert!(out[..5].iter().chain(&out[end..]).all(|byte| *byte == 0));
 }
 
 /// A record that ends with the second dice, and other first dice than those that the mask was drawn

@@ -108,7 +108,7 @@ fn joined(module: &str, name: &str) -> String {
 
 /// The function or constant that a line of source begins, if it does.
 fn item_of(line: &str) -> Option<(Kind, &str)> {
-    let words = line.strip_prefix("pub ").unwrap_or(line);
+    let words = line.strip_prefix("pub(crate) ").or(line.strip_prefix("pub ")).unwrap_or(line);
     let words = words.strip_prefix("extern \"C\" ").unwrap_or(words);
     let (kind, rest) = words.split_once(' ')?;
     let name = rest.split(|c: char| !c.is_alphanumeric() && c != '_').next()?;
