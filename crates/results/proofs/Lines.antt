@@ -55,7 +55,8 @@ item-front : (v l : List ℕ) {out : List ℕ} (i : ℕ) → out ≡ inFront v l
 unfolding inFront
 item-front v l i e h = ap (λ (o : List ℕ). item o i) e ∙ List·getD-append v (drop (length v) l) 0 i h
 
-front-length : (v l : List ℕ) {out : List ℕ} → out ≡ inFront v l → length v ≤ length out
+-- what stands in front of an output is no longer than it
+pub front-length : (v l : List ℕ) {out : List ℕ} → out ≡ inFront v l → length v ≤ length out
 unfolding inFront
 front-length v l e = omega (arith, ap length e, length-append v (drop (length v) l))
 

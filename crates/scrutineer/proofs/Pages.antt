@@ -1,12 +1,10 @@
 -- Which page follows from the record's length and its first fault.
 use mathlib.Core.Path.{_≡_, refl, sym, ap, _∙_}
-use mathlib.Core.Logic.{_≢_}
 use mathlib.Core.Bool.{true}
 use mathlib.Core.List.{List, [], _∷_, _++_}
-use Prim.Native.Nat.{ℕ, zero, suc, _+_, _≤_, _<_}
+use Prim.Native.Nat.{ℕ, zero, suc, _≤_, _<_}
 use native.Mathlib.Nat.{zero-add}
-use native.Mathlib.Omega.{arith}
-use lib.ListN.{length, drop, length-append}
+use lib.ListN.{length, drop}
 use Rattle.laws.specs.declared.Found.the-variants.{Nothing, Fault}
 use Rattle.laws.specs.Faults.{numberOf, nothing-fault}
 use Rattle.laws.specs.Tests.{is-atMost, not-atMost}
@@ -44,8 +42,3 @@ module _ (r : List ℕ) where
     unfolding pageOf numberOf judged answerOf
     refused zero h e w = absurd (nothing-fault (accepted-nothing true r .0 (ap (λ (x : ℕ). answerOf x []) (ap numberOf e))) e)
     refused (suc k) h e w = front w (page-is h (ap numberOf e))
-
--- a page that stands in front of a buffer is no longer than it
-pub front-length : (v l : List ℕ) {out : List ℕ} → out ≡ inFront v l → length v ≤ length out
-unfolding inFront
-front-length v l e = omega (arith, ap length e, length-append v (drop (length v) l))

@@ -4,7 +4,7 @@ use native.Mathlib.Omega.{arith}
 use lib.ListN.{length, length-take}
 use borrow.Author.Needs.{needs}
 use Rattle.protocol.specs.Results.{page}
-use Rattle.scrutineer.proofs.Pages.{front-length}
+use Rattle.results.proofs.Lines.{front-length}
 use Rattle.scrutineer.proofs.print_page.Statement.{statement}
 use Rattle.scrutineer.proofs.print_page.Tie as tie
 

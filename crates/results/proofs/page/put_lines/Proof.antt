@@ -3,7 +3,6 @@ use mathlib.Core.Path.{_≡_, ap}
 use mathlib.Core.List.{List}
 use Prim.Native.Nat.{ℕ, _+_, _-_, _*_, _≤_}
 use native.Mathlib.Omega.{arith}
-use lib.ListN.{length}
 use borrow.Author.Needs.{needs}
 use Rattle.laws.specs.Chunks.{chunks}
 use Rattle.laws.specs.Writing.{Went, start, go-turn, go-same}

@@ -1,11 +1,10 @@
 -- `results::tally::tally` meets its contract: what is not refused is ready to be tallied.
-use mathlib.Core.Path.{_≡_, ap, _∙_}
-use mathlib.Core.List.{List, [], _∷_}
+use mathlib.Core.Path.{ap, _∙_}
+use mathlib.Core.List.{[], _∷_}
 use Prim.Native.Nat.{ℕ}
 use borrow.Author.Needs.{needs}
-use lib.ListN.{length}
 use Rattle.protocol.specs.Answers.{done}
-use Rattle.protocol.specs.Results.{distinctVotes, tallied}
+use Rattle.protocol.specs.Results.{tallied}
 use Rattle.protocol.proofs.Answered.{refused-is, done-is, unwritten, wrote}
 use Rattle.results.proofs.Tallied.{ready}
 use Rattle.results.proofs.tally.tally.Statement.{statement}
