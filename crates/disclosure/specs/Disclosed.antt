@@ -30,7 +30,14 @@ pub record Sided (s : Slices) (sides : List ℕ) : Type 0 where
   pub long : length sides ≡ s .parameters .ballots
   pub binary : (j : ℕ) → j < s .parameters .ballots → item sides j ≤ 1
 
--- slices that pass every test, with dice, a mask of the right shape, sides, and a buffer of the due length
+-- slices that pass every test, with dice, a mask of the right shape, and a buffer of the due length: sides are drawn
+pub record Drawable (s : Slices) (dice : List ℕ) (mask outLong : ℕ) : Type 0 where
+  pub passed : Passed s
+  pub dice-long : length dice ≡ 30
+  pub shape : rightShape (s .parameters .compared) mask ≡ true
+  pub out-long : outLong ≡ partThreeLength (s .parameters)
+
+-- .. and sides given
 pub record Writable (s : Slices) (dice : List ℕ) (mask : ℕ) (sides : List ℕ) (outLong : ℕ) : Type 0 where
   pub passed : Passed s
   pub dice-long : length dice ≡ 30
