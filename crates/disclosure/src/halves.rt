@@ -1,11 +1,10 @@
 // Commands 07 and 08 of a record: the halves of all ballots, and behind each of them those of the entries linked to it.
-ghost use mathlib.Core.Path.{_≡_};
 ghost use mathlib.Core.List.{List, []};
 ghost use Prim.Native.Nat.{ℕ, _+_, _*_, _≤_, _<_};
 ghost use lib.ListN.{length};
 ghost use Rattle.laws.specs.Chunks.{chunks};
 ghost use Rattle.laws.specs.Lent.{before, after};
-ghost use Rattle.laws.specs.Masks.{bit, setBefore};
+ghost use Rattle.laws.specs.Masks.{bit};
 ghost use Rattle.laws.specs.Tests.{choose};
 ghost use Rattle.laws.specs.Writing.{Went};
 ghost use Rattle.protocol.specs.Terms.{item};
@@ -15,69 +14,10 @@ ghost use Rattle.protocol.specs.Record.{listHalfCommand};
 ghost use Rattle.protocol.specs.Inputs.{given, inputsOf};
 ghost use Rattle.protocol.specs.Servers.{linkPosition, entryOpening, postedDisclosure};
 ghost use Rattle.disclosure.specs.Disclosed.{Shaped, Placed, Sided};
+use crate::placing;
 use protocol::KEYS_WIDTH;
 use protocol::MOST_BALLOTS;
 use protocol::Parameters;
-
-// How many compared lists come before list l.
-fn rank(mask: u32, l: usize) -> usize
-    requires { ⌜ l ≤ 24 ⌝ }
-    ensures { λ r. ⌜ r ≡ setBefore mask l ⌝ }
-{
-    u32::count_ones(mask % (1 << (l as u32))) as usize
-}
-
-// The place of each ballot in list l, where the list is compared.
-fn place_if_compared(
-    p: Parameters,
-    ids: &[u32],
-    votes: &[u32],
-    numbers: &[u32],
-    permutations: &[u16],
-    keys: &[u8],
-    mask: u32,
-    l: usize,
-    places: &mut [u16],
-)
-    requires { let s = given p (now ids) (now votes) (now numbers) (now permutations) (now keys) in
-        ⌜ Shaped s mask × ((l < lists p) × Placed s mask l (now places)) ⌝ }
-    ensures { λ _.
-        let s = given p (before ids) (before votes) (before numbers) (before permutations) (before keys) in
-        ⌜ Placed s mask (l + 1) (after places) ⌝ }
-{
-    if (mask >> (l as u32)) % 2 == 0 {
-        return;
-    }
-    let n = p.ballots;
-    let from = rank(mask, l) * n;
-    let to = from + n;
-    mixing::fill_places(p, permutations, l, &mut places[from..to]);
-}
-
-// .. and in all compared lists.
-fn place_all(
-    p: Parameters,
-    ids: &[u32],
-    votes: &[u32],
-    numbers: &[u32],
-    permutations: &[u16],
-    keys: &[u8],
-    mask: u32,
-    places: &mut [u16],
-)
-    requires { let s = given p (now ids) (now votes) (now numbers) (now permutations) (now keys) in
-        ⌜ Shaped s mask × (p .compared * p .ballots ≤ length (now places)) ⌝ }
-    ensures { λ _.
-        let s = given p (before ids) (before votes) (before numbers) (before permutations) (before keys) in
-        ⌜ Placed s mask (lists p) (after places) ⌝ }
-{
-    let lists = 2 * p.compared;
-    let mut l: usize = 0;
-    while l < lists {
-        place_if_compared(p, ids, votes, numbers, permutations, keys, mask, l, places);
-        l += 1;
-    }
-}
 
 // Command 08 of the entry that list l links to ballot j, where the list is compared.
 fn put_if_compared(
@@ -108,7 +48,7 @@ fn put_if_compared(
         return at;
     }
     let n = p.ballots;
-    let i = places[rank(mask, l) * n + j] as usize;
+    let i = places[layout::rank(mask, l) * n + j] as usize;
     let from = KEYS_WIDTH * n + KEYS_WIDTH * (l * n + i);
     let to = from + KEYS_WIDTH;
     let six = mixing::entry(p, votes, numbers, permutations, l, i);
@@ -274,7 +214,7 @@ fn put_in(
         let d = postedDisclosure s [] (item (before sides)) in
         ⌜ Went (before out) at (chunks (said.halves p mask (linkPosition s) d) (p .ballots)) (after out) r ⌝ }
 {
-    place_all(p, ids, votes, numbers, permutations, keys, mask, places);
+    placing::place_all(p, ids, votes, numbers, permutations, keys, mask, places);
     put_with(
         out,
         at,

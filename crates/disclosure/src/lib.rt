@@ -1,8 +1,9 @@
-// Part three of a record, commands 06 to 0B: the second dice, the halves of all ballots and of the entries linked to them, the votes, the full
-// openings of the lists that are not compared, and the end.
+// Part three of a record, commands 06 to 0B: the second dice, the halves of all ballots and of the entries linked to them, the votes, the
+// full openings of the lists that are not compared, and the end.
 mod announced;
 mod halves;
 mod opened;
+mod placing;
 
 ghost use mathlib.Core.Path.{_≡_};
 ghost use mathlib.Core.List.{[], _++_};
@@ -122,7 +123,8 @@ pub fn part_three(
     out: &mut [u8],
 ) -> Written
     ensures { λ r.
-        let s = given (parameters modulus ballots compared) (before ids) (before votes) (before numbers) (before permutations) (before keys) in
+        let p = parameters modulus ballots compared in
+        let s = given p (before ids) (before votes) (before numbers) (before permutations) (before keys) in
         let k = partThreeRefusal s (before dice) mask (before sides) (length (before out)) in
         ⌜ (writtenAnswer r ≡ answerOf k []) × (after out ≡ afterwards k (before out) (thirdPart s (before dice) mask (before sides))) ⌝ }
 {
@@ -178,7 +180,8 @@ pub fn part_three_drawn(
     out: &mut [u8],
 ) -> Written
     ensures { λ r.
-        let s = given (parameters modulus ballots compared) (before ids) (before votes) (before numbers) (before permutations) (before keys) in
+        let p = parameters modulus ballots compared in
+        let s = given p (before ids) (before votes) (before numbers) (before permutations) (before keys) in
         let k = partThreeDrawnRefusal s (before dice) mask (length (before one)) (length (before two)) (length (before out)) in
         let part = thirdPart s (before dice) mask (sidesFor s (before dice) (before one) (before two)) in
         ⌜ (writtenAnswer r ≡ answerOf k []) × (after out ≡ afterwards k (before out) part) ⌝ }

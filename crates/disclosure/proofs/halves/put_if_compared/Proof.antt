@@ -33,19 +33,19 @@ place c = let a = c .before .before .before .before .before .before .before .bef
 ends : (c : tie.After-rank) → (let a = c .before .before .before .before .before .before .before .before .before .args in (c .rank .result * a .p .ballots + a .j < a .p .compared * a .p .ballots) × (a .p .compared * a .p .ballots ≤ 12 * mostBallots))
 ends c =
     let s = c .before .before .before .before .before .before .before .before .before in (
-      place-end (slices s) (s .args .mask) (s .pre .0) (s .args .l) (s .pre .1 .1 .0) (c .before .if1 .left) (s .pre .1 .0) (s .args .j) (c .rank .result) (s .pre .1 .1 .1 .0) (c .rank .ensures),
+      place-end (slices s) (s .args .mask) (s .pre .0) (s .args .l) (s .pre .1 .1 .0) (c .before .if1 .left) (s .pre .1 .0) (s .args .j) (c .rank .result) (s .pre .1 .1 .1 .0) (c .rank .ensures .0),
       rank-near (slices s) (s .args .mask) (s .pre .0) (s .args .l) (s .pre .1 .1 .0) (c .before .if1 .left),
     )
 
 found : (c : tie.After-rank) → (let a = c .before .before .before .before .before .before .before .before .before .args in place c ≡ linkPosition (inputsOf (slices (c .before .before .before .before .before .before .before .before .before))) (a .l) (a .j))
 found c =
     let s = c .before .before .before .before .before .before .before .before .before in
-    place-is (slices s) (s .args .mask) (s .pre .0) (s .args .l) (s .pre .1 .1 .0) (c .before .if1 .left) (s .pre .1 .0) (s .args .j) (c .rank .result) (s .pre .1 .1 .1 .0) (c .rank .ensures)
+    place-is (slices s) (s .args .mask) (s .pre .0) (s .args .l) (s .pre .1 .1 .0) (c .before .if1 .left) (s .pre .1 .0) (s .args .j) (c .rank .result) (s .pre .1 .1 .1 .0) (c .rank .ensures .0)
 
 inside : (c : tie.After-rank) → place c < c .before .before .before .before .before .before .before .before .before .args .p .ballots
 inside c =
     let s = c .before .before .before .before .before .before .before .before .before in
-    place-inside (slices s) (s .args .mask) (s .pre .0) (s .args .l) (s .pre .1 .1 .0) (c .before .if1 .left) (s .pre .1 .0) (s .args .j) (c .rank .result) (s .pre .1 .1 .1 .0) (c .rank .ensures)
+    place-inside (slices s) (s .args .mask) (s .pre .0) (s .args .l) (s .pre .1 .1 .0) (c .before .if1 .left) (s .pre .1 .0) (s .args .j) (c .rank .result) (s .pre .1 .1 .1 .0) (c .rank .ensures .0)
 
 -- its keys are not far, and end inside
 near : (c : tie.After-rank) → (let a = c .before .before .before .before .before .before .before .before .before .args in a .l * a .p .ballots + place c < 24 * mostBallots)

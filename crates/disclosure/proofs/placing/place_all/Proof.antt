@@ -1,4 +1,4 @@
--- `halves::place_all` meets its contract. The loop: the places of the compared lists among the first l are filled in.
+-- `placing::place_all` meets its contract. The loop: the places of the compared lists among the first l are filled in.
 use mathlib.Core.Path.{_≡_}
 use Prim.Native.Nat.{_*_, _-_, _≤_}
 use native.Mathlib.Omega.{arith}
@@ -8,8 +8,8 @@ use Rattle.protocol.specs.Layout.{lists}
 use Rattle.protocol.specs.Inputs.{given}
 use Rattle.disclosure.specs.Disclosed.{Placed}
 use Rattle.disclosure.proofs.LinkedHalves.{none-placed}
-use Rattle.disclosure.proofs.halves.place_all.Statement.{statement}
-use Rattle.disclosure.proofs.halves.place_all.Tie as tie
+use Rattle.disclosure.proofs.placing.place_all.Statement.{statement}
+use Rattle.disclosure.proofs.placing.place_all.Tie as tie
 
 abbrev Inv-loop : tie.InvT-loop
 Inv-loop p ids votes numbers permutations keys mask places₀ lists l₀ places l =

@@ -1,4 +1,4 @@
--- `halves::place_if_compared` meets its contract: by the list's bit of the mask.
+-- `placing::place_if_compared` meets its contract: by the list's bit of the mask.
 use mathlib.Core.Path.{_≡_, sym, ap, _∙_}
 use mathlib.Core.List.{List}
 use Prim.Native.Nat.{ℕ, _+_, _-_, _*_, _≤_}
@@ -10,8 +10,8 @@ use Rattle.protocol.specs.Terms.{mostBallots}
 use Rattle.protocol.specs.Inputs.{Slices, given}
 use Rattle.mixing.proofs.Agreement.{places, in-list, position-same}
 use Rattle.disclosure.proofs.LinkedHalves.{list-passed, rank-end, rank-near, list-placed}
-use Rattle.disclosure.proofs.halves.place_if_compared.Statement.{statement}
-use Rattle.disclosure.proofs.halves.place_if_compared.Tie as tie
+use Rattle.disclosure.proofs.placing.place_if_compared.Statement.{statement}
+use Rattle.disclosure.proofs.placing.place_if_compared.Tie as tie
 
 -- the slices that it is lent
 abbrev slices : tie.Start → Slices
@@ -24,7 +24,7 @@ returns c = let s = c .before .before .before .before .before .before .before in
 
 -- where the list's places end
 ends : (c : tie.After-rank) → (let a = c .before .before .before .before .before .before .before .before .args in c .rank .result * a .p .ballots + a .p .ballots ≤ a .p .compared * a .p .ballots)
-ends c = let s = c .before .before .before .before .before .before .before .before in rw (c .rank .ensures) (rank-end (slices s) (s .args .mask) (s .pre .0) (s .args .l) (s .pre .1 .0) (c .before .if1 .left))
+ends c = let s = c .before .before .before .before .before .before .before .before in rw (c .rank .ensures .0) (rank-end (slices s) (s .args .mask) (s .pre .0) (s .args .l) (s .pre .1 .0) (c .before .if1 .left))
 
 near : (c : tie.After-rank) → (let a = c .before .before .before .before .before .before .before .before .args in a .p .compared * a .p .ballots ≤ 12 * mostBallots)
 near c = let s = c .before .before .before .before .before .before .before .before in rank-near (slices s) (s .args .mask) (s .pre .0) (s .args .l) (s .pre .1 .0) (c .before .if1 .left)
@@ -49,7 +49,7 @@ returns-2 c =
     let done = c .before .before .fill-places .ensures in
     let wide : r * n + n - r * n ≡ n = omega arith in
     list-placed (slices s) (s .args .mask) (s .pre .0) (s .args .l) (s .pre .1 .0) (c .before .before .before .before .before .if1 .left) filled (r * n) (r * n + n - r * n) (s .pre .1 .1)
-    (ap (λ (x : ℕ). x * n) (c .before .before .before .before .rank .ensures)) wide (done .0) (λ j lj. done .1 j lj ∙ position-same (slices s) (s .args .l) j)
+    (ap (λ (x : ℕ). x * n) (c .before .before .before .before .rank .ensures .0)) wide (done .0) (λ j lj. done .1 j lj ∙ position-same (slices s) (s .args .l) j)
 
 pub place-if-compared-spec : {M : Type 1} → statement M
 place-if-compared-spec =
