@@ -1,12 +1,11 @@
 -- Openings: as code makes them of the part of the keys that it lends, and how long they are.
 use mathlib.Core.Path.{_≡_, ap, ap₂, _∙_}
 use mathlib.Core.List.{List, [], _∷_, _++_}
-use Prim.Native.Nat.{ℕ, suc, _+_, _-_, _*_, _≤_, _<_}
-use native.Mathlib.Nat.{mul-le-mul-right}
+use Prim.Native.Nat.{ℕ, _+_, _-_, _*_, _≤_, _<_}
 use native.Mathlib.Omega.{arith}
 use lib.ListN.{length, take, drop}
 use Rattle.laws.specs.Bytes.{bytes}
-use Rattle.laws.specs.Chunks.{piece, chunks, chunks-same, length-piece}
+use Rattle.laws.specs.Chunks.{piece, chunks-same, length-piece}
 use Rattle.laws.specs.Writing.{row-within, part-is}
 use Rattle.protocol.specs.Terms.{item, mostBallots, opening}
 use Rattle.protocol.specs.Record.{ballotHalfCommand, listHalfCommand, fullCommand}

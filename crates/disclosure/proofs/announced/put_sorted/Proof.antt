@@ -1,5 +1,5 @@
 -- `announced::put_sorted` meets its contract: what is copied and sorted are the votes, smallest first.
-use mathlib.Core.Path.{_≡_, ap, ap₂, _∙_}
+use mathlib.Core.Path.{ap, ap₂, _∙_}
 use mathlib.Core.List.{List}
 use Prim.Native.Nat.{ℕ}
 use lib.ListN.{length}

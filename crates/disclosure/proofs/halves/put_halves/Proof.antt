@@ -1,5 +1,4 @@
 -- `halves::put_halves` meets its contract: it lends the room for the places.
-use mathlib.Core.Path.{_≡_}
 use Prim.Native.Nat.{ℕ, _*_, _≤_}
 use native.Mathlib.Nat.{mul-le-mul-right}
 use native.Mathlib.Omega.{arith}

@@ -1,14 +1,12 @@
 -- `halves::put_halves_of` meets its contract: the ballot's half, and behind it those of the linked entries.
-use mathlib.Core.List.{List}
-use Prim.Native.Nat.{ℕ, _+_, _*_}
 use native.Mathlib.Omega.{arith}
 use borrow.Author.Needs.{needs}
-use Rattle.laws.specs.Writing.{go-on, go-same, part-length}
+use Rattle.laws.specs.Writing.{go-on, go-same}
 use Rattle.protocol.specs.Record.{halves}
 use Rattle.protocol.specs.Inputs.{Slices, given}
 use Rattle.protocol.specs.Servers.{postedDisclosure}
 use Rattle.mixing.proofs.Agreement.{votes, numbers}
-use Rattle.disclosure.proofs.Openings.{ballotKeysAt, ballot-keys-end, ballot-half-is, ballot-half-long}
+use Rattle.disclosure.proofs.Openings.{ballot-half-is, ballot-half-long}
 use Rattle.disclosure.proofs.halves.put_halves_of.Statement.{statement}
 use Rattle.disclosure.proofs.halves.put_halves_of.Tie as tie
 

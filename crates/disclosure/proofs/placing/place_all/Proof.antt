@@ -1,6 +1,6 @@
 -- `placing::place_all` meets its contract. The loop: the places of the compared lists among the first l are filled in.
 use mathlib.Core.Path.{_≡_}
-use Prim.Native.Nat.{_*_, _-_, _≤_}
+use Prim.Native.Nat.{_-_, _≤_}
 use native.Mathlib.Omega.{arith}
 use lib.ListN.{length}
 use borrow.Author.Needs.{needs}

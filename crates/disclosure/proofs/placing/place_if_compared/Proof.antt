@@ -1,10 +1,9 @@
 -- `placing::place_if_compared` meets its contract: by the list's bit of the mask.
-use mathlib.Core.Path.{_≡_, sym, ap, _∙_}
+use mathlib.Core.Path.{_≡_, ap, _∙_}
 use mathlib.Core.List.{List}
 use Prim.Native.Nat.{ℕ, _+_, _-_, _*_, _≤_}
 use native.Mathlib.Omega.{arith}
 use borrow.Author.Needs.{needs}
-use Rattle.laws.specs.Masks.{setBefore}
 use Rattle.laws.specs.Writing.{part-length}
 use Rattle.protocol.specs.Terms.{mostBallots}
 use Rattle.protocol.specs.Inputs.{Slices, given}
