@@ -80,3 +80,12 @@ fn length_of_the_input() {
     }
     assert_eq!(printed(&vec![1; LONGEST + 1]), "TOO LONG\n");
 }
+
+/// What can't be read, as a folder, gets a line on standard error and no verdict.
+#[test]
+fn unreadable_input() {
+    let folder = fs::File::open(env!("CARGO_MANIFEST_DIR")).expect("a folder can be opened");
+    let output = Command::new(program()).stdin(folder).output().expect("the program runs");
+    assert_eq!(output.stdout, b"");
+    assert_eq!(output.stderr, b"standard input cannot be read\n");
+}
