@@ -72,7 +72,7 @@ fn fill_sides(dice: &[u8], one: &[u8], two: &[u8], out: &mut [u8])
 }
 
 // The whole part, of inputs that are not refused, sides drawn into the room that is lent.
-fn write_drawn(
+pub fn write_drawn(
     p: Parameters,
     ids: &[u32],
     votes: &[u32],

@@ -1,76 +1,55 @@
--- What the calls leave where they refuse nothing, and the three parts joined.
+-- The parts by the switches, each written on what the ones before left, and the three joined.
 use mathlib.Core.Path.{_≡_, refl, ap, _∙_}
 use mathlib.Core.Bool.{Bool, true, false}
 use mathlib.Core.List.{List, _++_, append-assoc}
 use Prim.Native.Nat.{ℕ, _+_}
 use native.Mathlib.Omega.{arith}
 use lib.ListN.{length, length-append}
-use Rattle.laws.specs.Faults.{rules}
+use Rattle.laws.specs.Tests.{equal-iff}
 use Rattle.laws.specs.Writing.{Went, go-on, go-same, whole}
-use Rattle.protocol.specs.declared.Draw.the-variants.{Mask, Refused}
-use Rattle.protocol.specs.Terms.{modulusInLimits, ballotsInLimits, listsInLimits, inLimits}
-use Rattle.protocol.specs.Inputs.{Slices, partTwoRefusal, partTwoDrawnRefusal, partThreeRefusal, partThreeDrawnRefusal, afterwards}
+use Rattle.protocol.specs.declared.Parameters.{Parameters}
+use Rattle.protocol.specs.Rules.{rightShape}
+use Rattle.protocol.specs.Drawing.{challenge, drawnMask}
+use Rattle.protocol.specs.Inputs.{Slices, binarySides}
 use Rattle.protocol.specs.Servers.{firstPart, secondPart, maskFor, thirdPart, sidesFor}
-use Rattle.protocol.specs.Results.{drawRefusal, drawOf}
-use Rattle.protocol.specs.Results as results
-use Rattle.protocol.specs.Election.{Choice, maskBy, sidesBy, secondRefusal, thirdRefusal, electionMask, electionTwo, electionSides, electionThree, electionRecord}
-use Rattle.protocol.proofs.Unrefused.{unrefused}
-use Rattle.election.specs.Holding.{choiceOf}
+use Rattle.protocol.specs.Election.{Choice, choiceOf, maskInShape, sidesDue, sidesBinary, maskBy, sidesBy, electionMask, electionTwo, electionSides, electionThree, electionRecord}
+use Rattle.election.specs.Holding.{Lent, buffers, partsOf}
 
--- an output that nothing was refused for
-pub written : (before : List ℕ) {k : ℕ} {after bytes : List ℕ} → k ≡ 0 → after ≡ afterwards k before bytes → after ≡ bytes
-unfolding afterwards
-written before z e = rw z at e
+-- ---- by the switches
 
--- ---- the second call
+module _ (s : Slices) (dice one : List ℕ) {b : Bool} (mask : ℕ) where
+  -- the mask that part two is written with
+  pub mask-on : {after : List ℕ} → b ≡ true → after ≡ secondPart s dice mask
+      → (mask ≡ maskBy s (choiceOf b mask) dice one) × (after ≡ secondPart s dice (maskBy s (choiceOf b mask) dice one))
+  unfolding choiceOf maskBy
+  mask-on on e = rw on (refl, e)
 
-module _ (s : Slices) (dice : List ℕ) (b : Bool) (mask : ℕ) (one : List ℕ) (outLong : ℕ) (kept : secondRefusal s (choiceOf b mask) dice (length one) outLong ≡ 0) where
-  -- r is the mask that was written
-  abbrev pub Second : ℕ → List ℕ → Type 0
-  Second r after = (r ≡ maskBy s (choiceOf b mask) dice one) × (after ≡ secondPart s dice (maskBy s (choiceOf b mask) dice one))
+  pub mask-off : {r : ℕ} {after : List ℕ} → b ≡ false → r ≡ drawnMask (s .parameters .compared) (challenge dice one) → after ≡ secondPart s dice r
+      → (r ≡ maskBy s (choiceOf b mask) dice one) × (after ≡ secondPart s dice (maskBy s (choiceOf b mask) dice one))
+  unfolding choiceOf maskBy maskFor
+  mask-off off m e = rw off (m, e ∙ ap (secondPart s dice) m)
 
-  pub second-given : (before : List ℕ) {after : List ℕ} → b ≡ true → after ≡ afterwards (partTwoRefusal s dice mask outLong) before (secondPart s dice mask) → Second mask after
-  unfolding choiceOf secondRefusal maskBy
-  second-given before on e = let z = rw on at kept in rw on (refl, written before z e)
+module _ (s : Slices) (dice one two : List ℕ) {b : Bool} (sides : List ℕ) where
+  -- the sides that part three is written with
+  pub sides-on : (mask : ℕ) {after : List ℕ} → b ≡ true → after ≡ thirdPart s dice mask sides → after ≡ thirdPart s dice mask (sidesBy s (choiceOf b sides) dice one two)
+  unfolding choiceOf sidesBy
+  sides-on mask on e = rw on e
 
-  module _ (off : b ≡ false) where
-    drawn-kept : partTwoDrawnRefusal s dice (length one) outLong ≡ 0
-    unfolding choiceOf secondRefusal
-    drawn-kept = rw off at kept
+  pub sides-off : (mask : ℕ) {after : List ℕ} → b ≡ false → after ≡ thirdPart s dice mask (sidesFor s dice one two) → after ≡ thirdPart s dice mask (sidesBy s (choiceOf b sides) dice one two)
+  unfolding choiceOf sidesBy
+  sides-off mask off e = rw off e
 
-    -- a draw tests no more than the call did
-    draw-kept : drawRefusal (s .parameters) dice (length one) ≡ 0
-    unfolding drawRefusal inLimits modulusInLimits ballotsInLimits listsInLimits partTwoDrawnRefusal
-    draw-kept =
-        let u = unrefused s _ _ _ _ drawn-kept in
-        let long = simp rules at (u .lengths-due) in
-        simp rules (((u .modulus-low, u .modulus-high), ((u .ballots-low, u .ballots-high), (u .compared-low, u .compared-high))), ((long .0, long .1 .0), (u .fair-dice, refl)))
+pub long-on : (p : Parameters) (b : Bool) (sides : List ℕ) → b ≡ true → sidesDue p (choiceOf b sides) ≡ true → length sides ≡ p .ballots
+unfolding choiceOf sidesDue
+long-on p b sides on h = equal-iff _ _ .0 (rw on at h)
 
-    pub draw-is : results.drawn (s .parameters) dice one ≡ Mask (maskFor s dice one)
-    unfolding results.drawn drawOf maskFor
-    draw-is = rw draw-kept refl
+pub binary-on : (s : Slices) (b : Bool) (sides : List ℕ) → b ≡ true → sidesBinary s (choiceOf b sides) ≡ true → binarySides s sides ≡ true
+unfolding choiceOf sidesBinary
+binary-on s b sides on h = rw on at h
 
-    pub second-drawn : (before : List ℕ) {after : List ℕ} {r : ℕ} → after ≡ afterwards (partTwoDrawnRefusal s dice (length one) outLong) before (secondPart s dice (maskFor s dice one))
-        → results.drawn (s .parameters) dice one ≡ Mask r → Second r after
-    unfolding choiceOf maskBy
-    second-drawn before {r = r} e d = let m : r ≡ maskFor s dice one = cc draw-is in rw off (m, written before drawn-kept e)
-
-    pub never-refused : {k : ℕ} → results.drawn (s .parameters) dice one ≡ Refused k → ⊥
-    never-refused e = let z : _≡_ {A = ℕ} 0 1 = cc draw-is in omega arith
-
--- ---- the third call
-
-module _ (s : Slices) (dice : List ℕ) (b : Bool) (sides : List ℕ) (mask : ℕ) (one two : List ℕ) (outLong : ℕ)
-    (kept : thirdRefusal s (choiceOf b sides) dice mask (length one) (length two) outLong ≡ 0) (before : List ℕ) {after : List ℕ} where
-  pub third-given : b ≡ true → after ≡ afterwards (partThreeRefusal s dice mask sides outLong) before (thirdPart s dice mask sides)
-      → after ≡ thirdPart s dice mask (sidesBy s (choiceOf b sides) dice one two)
-  unfolding choiceOf thirdRefusal sidesBy
-  third-given on e = let z = rw on at kept in rw on (written before z e)
-
-  pub third-drawn : b ≡ false → after ≡ afterwards (partThreeDrawnRefusal s dice mask (length one) (length two) outLong) before (thirdPart s dice mask (sidesFor s dice one two))
-      → after ≡ thirdPart s dice mask (sidesBy s (choiceOf b sides) dice one two)
-  unfolding choiceOf thirdRefusal sidesBy
-  third-drawn off e = let z = rw off at kept in rw off (written before z e)
+pub shape-on : (p : Parameters) (b : Bool) (mask : ℕ) → b ≡ true → maskInShape p (choiceOf b mask) ≡ true → rightShape (p .compared) mask ≡ true
+unfolding choiceOf maskInShape
+shape-on p b mask on h = rw on at h
 
 -- ---- the three buffers
 
@@ -85,12 +64,13 @@ unfolding electionMask
 mask-written s byMask dice e m = m ∙ ap (maskBy s byMask dice) e
 
 -- each call on what the one before left
-pub election : (s : Slices) (byMask : Choice ℕ) (dice₁ : List ℕ) (bySides : Choice (List ℕ)) (dice₂ : List ℕ) {one two three all : List ℕ} {used : ℕ}
-    → one ≡ firstPart s → (used ≡ maskBy s byMask dice₁ one) × (two ≡ secondPart s dice₁ (maskBy s byMask dice₁ one))
-    → three ≡ thirdPart s dice₂ used (sidesBy s bySides dice₂ one two) → all ≡ one ++ (two ++ three)
-    → (one ≡ firstPart s) × ((two ≡ electionTwo s byMask dice₁) × ((three ≡ electionThree s byMask dice₁ bySides dice₂) × (all ≡ electionRecord s byMask dice₁ bySides dice₂)))
+pub election : (e : Lent) {one two three all : List ℕ} {used : ℕ} → one ≡ firstPart (e .slices)
+    → (used ≡ maskBy (e .slices) (e .mask) (e .firstDice) one) × (two ≡ secondPart (e .slices) (e .firstDice) (maskBy (e .slices) (e .mask) (e .firstDice) one))
+    → three ≡ thirdPart (e .slices) (e .secondDice) used (sidesBy (e .slices) (e .sides) (e .secondDice) one two) → all ≡ one ++ (two ++ three)
+    → buffers one two three all ≡ partsOf e
 unfolding electionMask electionTwo electionSides electionThree electionRecord
-election s byMask dice₁ bySides dice₂ {one} {two} {three} e₁ (m, e₂) e₃ e =
-    let p₂ : two ≡ electionTwo s byMask dice₁ = e₂ ∙ ap (λ (x : List ℕ). secondPart s dice₁ (maskBy s byMask dice₁ x)) e₁ in
-    let p₃ : three ≡ electionThree s byMask dice₁ bySides dice₂ = rw (m, p₂, e₁) at e₃ in
-    (e₁, (p₂, (p₃, rw (e₁, p₂, p₃) at e)))
+election e {one} {two} {three} {all} e₁ (m, e₂) e₃ e₄ =
+    let p₂ : two ≡ electionTwo (e .slices) (e .mask) (e .firstDice) = e₂ ∙ ap (λ (x : List ℕ). secondPart (e .slices) (e .firstDice) (maskBy (e .slices) (e .mask) (e .firstDice) x)) e₁ in
+    let p₃ : three ≡ electionThree (e .slices) (e .mask) (e .firstDice) (e .sides) (e .secondDice) = rw (m, p₂, e₁) at e₃ in
+    let p : all ≡ electionRecord (e .slices) (e .mask) (e .firstDice) (e .sides) (e .secondDice) = rw (e₁, p₂, p₃) at e₄ in
+    rw (e₁, p₂, p₃, p)

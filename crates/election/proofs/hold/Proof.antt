@@ -1,9 +1,10 @@
--- `election::hold` meets its contract: inputs that no call refuses give a record that the judge accepts, so that it never rejects.
-use mathlib.Core.Path.{sym, _∙_}
+-- `election::hold` meets its contract: inputs that are not refused give a record that the judge accepts, so that it never rejects.
+use mathlib.Core.Path.{sym, ap, _∙_}
 use borrow.Author.Needs.{needs}
 use native.Mathlib.Omega.{arith}
 use Rattle.laws.specs.Bytes.{Below}
-use Rattle.election.proofs.Ending.{refused, accepted, never-rejected}
+use Rattle.protocol.specs.Answers.{verdictAnswer}
+use Rattle.election.proofs.Ending.{held-refused, held-accepted, never-rejected}
 use Rattle.election.proofs.hold.Statement.{statement}
 use Rattle.election.proofs.hold.Tie as tie
 
@@ -15,18 +16,17 @@ ids-fit : (c : tie.Else1) → Below 4294967296 (c .before .before .before .befor
 ids-fit c i l = omega (arith, c .before .before .before .before .before .before .before .before .before .before .before .before .before .shared-slice-known .given i)
 
 returns : tie.Need-returns
-returns c = refused _ _ _ _ _ _ _ _ _ _ _ _ _ _ _ _ (c .before .refuse .ensures) (c .if1 .taken)
+returns c = held-refused _ _ _ (c .before .election .ensures) (c .if1 .taken)
 
 returns-2 : tie.Need-returns-2
 returns-2 c =
-    accepted _ _ _ _ _ _ _ _ _ _ _ (tested (c .before .before) .before .refuse .ensures) (tested (c .before .before) .if1 .left) (ids-fit (tested (c .before .before))) _ _ _ _
-    (c .before .before .before .before .before .before .before .before .before .before .before .before .write .ensures)
+    held-accepted _ _ (tested (c .before .before) .before .election .ensures) (tested (c .before .before) .if1 .left) (ids-fit (tested (c .before .before))) (c .before .before .before .before .before .before .before .before .before .before .before .before .write .ensures)
 
 returns-3 : tie.Need-returns-3
 returns-3 c =
     absurd
-    (never-rejected _ _ _ _ _ _ _ _ _ _ _ (tested (c .before .before .before) .before .refuse .ensures) (tested (c .before .before .before) .if1 .left) (ids-fit (tested (c .before .before .before)))
-    (c .before .before .before .before .before .before .before .before .before .before .before .before .before .write .ensures .1 .1 .1) (sym (c .before .before .before .judge-plainly .ensures) ∙ c .before .broken .given .1))
+    (never-rejected _ _ _ _ _ (tested (c .before .before .before) .before .election .ensures) (tested (c .before .before .before) .if1 .left) (ids-fit (tested (c .before .before .before))) (c .before .before .before .before .before .before .before .before .before .before .before .before .before .write .ensures)
+    (sym (c .before .before .before .judge-plainly .ensures) ∙ ap verdictAnswer (c .before .broken .given .1)))
 
 pub hold-spec : {M : Type 1} → statement M
 hold-spec =
