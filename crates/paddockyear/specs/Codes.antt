@@ -1,13 +1,12 @@
 -- The numbers that the C faces give for answers.
 use mathlib.Core.Path.{_≡_, refl, sym, ap, _∙_}
 use mathlib.Core.List.{List, [], _∷_}
-use Prim.Native.Nat.{ℕ, zero, suc}
+use Prim.Native.Nat.{ℕ, zero, suc, _+_}
 use native.Mathlib.Omega.{arith}
 use Rattle.laws.specs.Tests.{choose}
 use Rattle.laws.specs.declared.Found.{Found}
 use Rattle.laws.specs.declared.Found.the-variants.{Nothing, Fault}
-use Rattle.protocol.specs.declared.Written.{Written}
-use Rattle.protocol.specs.Answers.{Answer, done, refused, answerOf, accepted, writtenAnswer}
+use Rattle.protocol.specs.Answers.{Answer, done, refused, answerOf, accepted}
 use Rattle.election.specs.declared.Outcome.{Outcome}
 use Rattle.election.specs.declared.Outcome.the-variants as outcome
 use Rattle.election.specs.Holding.{outcomeAnswer}
@@ -19,9 +18,9 @@ codeOf (refused k) = k
 
 -- of the receipt check: 0 posted as printed, 101 posted otherwise, 102 not posted, else the refusal's number
 unfoldable pub receiptCode : Answer → ℕ
-receiptCode (done (zero ∷ [])) = 0
-receiptCode (done (suc zero ∷ [])) = 101
-receiptCode (done values) = 102
+receiptCode (done []) = 0
+receiptCode (done (zero ∷ rest)) = 0
+receiptCode (done (suc k ∷ rest)) = 101 + k
 receiptCode (refused k) = k
 
 -- of the election: 0 for accepted, else the number of the refusal, or of the rule that the record breaks (which no record does)
@@ -42,7 +41,7 @@ unfolding codeOf answerOf
 code-is zero values = refl
 code-is (suc k) values = refl
 
-pub code-of : (k : ℕ) {w : Written} {r : ℕ} → writtenAnswer w ≡ answerOf k [] → r ≡ codeOf (writtenAnswer w) → r ≡ k
+pub code-of : (k : ℕ) {a : Answer} {r : ℕ} → a ≡ answerOf k [] → r ≡ codeOf a → r ≡ k
 code-of k e h = h ∙ ap codeOf e ∙ code-is k []
 
 -- an answer with one value, which stands in a number that is lent, y before
@@ -57,10 +56,10 @@ done-one zero value x y e = (refl, cc)
 done-one (suc n) value x y e = absurd (let z : _≡_ {A = ℕ} 0 1 = cc in omega arith)
 
 -- an election's answer is that of its code: a record that is written is accepted
-pub outcome-answer : (number : ℕ) (values : List ℕ) {o : Outcome} {r : ℕ} → outcomeAnswer o ≡ answerOf number values
+pub outcome-answer : (number : ℕ) (values : List ℕ) (o : Outcome) {r : ℕ} → outcomeAnswer o ≡ answerOf number values
     → (number ≡ 0 → outcomeAnswer o ≡ accepted) → r ≡ outcomeCode o → answerOf r [] ≡ outcomeAnswer o
 unfolding answerOf outcomeCode
-outcome-answer number values {o} {r} e h f = rw f (go number o e h)
+outcome-answer number values o {r} e h f = rw f (go number o e h)
   where
     go : (number : ℕ) (o : Outcome) → outcomeAnswer o ≡ answerOf number values → (number ≡ 0 → outcomeAnswer o ≡ accepted)
         → answerOf (outcomeCode o) [] ≡ outcomeAnswer o

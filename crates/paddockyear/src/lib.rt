@@ -358,7 +358,7 @@ pub extern "C" fn paddockyear_draw_mask(
     ensures { λ r.
         let k = drawRefusal (parameters modulus ballots compared) (before dice) (length (before one)) in
         let drawn = drawnMask compared (challenge (before dice) (before one)) in
-        ⌜ (r ≡ k) × (after mask ≡ choose k drawn (before mask)) ⌝ }
+        ⌜ (r ≡ k) × (now (mask .exit) ≡ choose k drawn (now (mask .entry))) ⌝ }
 {
     match comparison::draw(modulus, ballots, compared, dice, one) {
         Draw::Refused(k) => k,
@@ -469,7 +469,7 @@ pub extern "C" fn paddockyear_judge_as_drawn(bytes: &[u8]) -> u32
 pub extern "C" fn paddockyear_first_fault(bytes: &[u8], drawn: u32, place: &mut u64) -> u32
     ensures { λ r.
         let found = firstFault (differ drawn 0) (before bytes) in
-        ⌜ (r ≡ numberOf found) × (after place ≡ placeIn found (before place)) ⌝ }
+        ⌜ (r ≡ numberOf found) × (now (place .exit) ≡ placeIn found (now (place .entry))) ⌝ }
 {
     match verifier::first_fault(bytes, drawn != 0) {
         Found::Nothing => 0,
@@ -493,7 +493,7 @@ pub extern "C" fn paddockyear_tally(
         let written = inFront (distinctVotes (before votes)) (before values) in
         let counted = inFront (voteCounts (before votes)) (before counts) in
         ⌜ (r ≡ k)
-        × ((after pairs ≡ choose k (length (distinctVotes (before votes))) (before pairs))
+        × ((now (pairs .exit) ≡ choose k (length (distinctVotes (before votes))) (now (pairs .entry)))
         × ((after values ≡ afterwards k (before values) written) × (after counts ≡ afterwards k (before counts) counted))) ⌝ }
 {
     match results::tally::tally(votes, values, counts) {

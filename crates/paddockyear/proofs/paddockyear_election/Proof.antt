@@ -9,7 +9,7 @@ returns : tie.Need-returns
 unfolding differ
 returns c =
     let held = c .before .before .before .before .before .before .before .before .before .hold .ensures in
-    rw (outcome-answer _ _ (held .answers) (held .accepts) (c .outcome-code .ensures)) held
+    rw (outcome-answer _ _ _ (held .answers) (held .accepts) (c .outcome-code .ensures)) held
 
 pub paddockyear-election-spec : {M : Type 1} → statement M
 paddockyear-election-spec =
