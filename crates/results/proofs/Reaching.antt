@@ -11,7 +11,7 @@ use Rattle.laws.specs.Faults.{_then_, rules}
 use Rattle.protocol.specs.declared.Parameters.{Parameters}
 use Rattle.protocol.specs.declared.Due.{Due}
 use Rattle.protocol.specs.declared.Due.the-variants.{First, Ballot, Vote}
-use Rattle.protocol.specs.Terms.{item}
+use Rattle.protocol.specs.Terms.{item, mostBallots}
 use Rattle.protocol.specs.Layout.{width, firstWidth, atBallot, atVote}
 use Rattle.protocol.specs.Record.{parametersOf}
 use Rattle.protocol.specs.Rules.{placeOf, fault}
@@ -75,7 +75,7 @@ module _ (drawn : Bool) (r : List ℕ) (e : firstFault drawn r ≡ Nothing) wher
   pub accepted-whole : firstWidth (parametersOf r) ≤ length r
   accepted-whole = stands-whole drawn (parametersOf r) r First (stands .first)
 
-  pub accepted-few : parametersOf r .ballots ≤ 1024
+  pub accepted-few : parametersOf r .ballots ≤ mostBallots
   accepted-few = limits drawn r (stands .first) .few .ballots
 
   pub votes-ready : {p : Parameters} {n : ℕ} → p ≡ parametersOf r → n ≡ p .ballots → VotesReady p r n

@@ -3,13 +3,14 @@ use Prim.Native.Nat.{_*_, _≤_}
 use native.Mathlib.Nat.{mul-le-mul}
 use native.Mathlib.Omega.{arith}
 use borrow.Author.Needs.{needs}
+use Rattle.protocol.specs.Terms.{mostBallots}
 use Rattle.laws.specs.Tests.{is-equal, not-equal, and-go, and-stop}
 use Rattle.protocol.specs.Inputs.{dueLengths}
 use Rattle.refusals.proofs.Tests.{long}
 use Rattle.refusals.proofs.due_lengths.Statement.{statement}
 use Rattle.refusals.proofs.due_lengths.Tie as tie
 
-most : (c : tie.Start) → c .args .p .compared * c .args .p .ballots ≤ 12 * 1024
+most : (c : tie.Start) → c .args .p .compared * c .args .p .ballots ≤ 12 * mostBallots
 most c = mul-le-mul (c .pre .compared) (c .pre .ballots)
 
 returns : tie.Need-returns

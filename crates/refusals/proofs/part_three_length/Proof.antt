@@ -4,11 +4,12 @@ use Prim.Native.Nat.{_*_, _≤_}
 use native.Mathlib.Nat.{mul-le-mul}
 use native.Mathlib.Omega.{arith}
 use borrow.Author.Needs.{needs}
+use Rattle.protocol.specs.Terms.{mostBallots}
 use Rattle.protocol.specs.Layout.{partThreeLength}
 use Rattle.refusals.proofs.part_three_length.Statement.{statement}
 use Rattle.refusals.proofs.part_three_length.Tie as tie
 
-most : (c : tie.After-struct-known2) → let p = c .before .before .args .p in p .compared * p .ballots ≤ 12 * 1024
+most : (c : tie.After-struct-known2) → let p = c .before .before .args .p in p .compared * p .ballots ≤ 12 * mostBallots
 most c = mul-le-mul (c .before .before .pre .compared) (c .before .before .pre .ballots)
 
 returns : tie.Need-returns

@@ -3,6 +3,7 @@ use Prim.Native.Nat.{_≤_}
 use native.Mathlib.Omega.{arith}
 use lib.ListN.{length-take}
 use borrow.Author.Needs.{needs}
+use Rattle.protocol.specs.Terms.{mostBallots}
 use Rattle.results.proofs.Reaching.{accepted-whole, accepted-few, votes-ready, votes-rise}
 use Rattle.results.proofs.page.put_result.Statement.{statement}
 use Rattle.results.proofs.page.put_result.Tie as tie
@@ -11,7 +12,7 @@ parameters-requires : tie.Need-parameters-requires
 parameters-requires c κs = accepted-whole _ _ (c .before .before .pre .0)
 
 -- the number of ballots is within its limit
-few : (c : tie.After-parameters) → c .parameters .result .ballots ≤ 1024
+few : (c : tie.After-parameters) → c .parameters .result .ballots ≤ mostBallots
 few c = rw (c .parameters .ensures) (accepted-few _ _ (c .before .before .before .pre .0))
 
 array-borrow-prefix-votes : tie.Need-array-borrow-prefix-votes
