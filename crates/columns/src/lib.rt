@@ -12,7 +12,7 @@ ghost use Rattle.columns.specs.Ready.{RowReady, PairReady};
 use protocol::Written;
 
 // Adds the offsets to a row and takes place i from place perm(i).
-pub fn mix_row(modulus: u32, numbers: &[u32], offsets: &[u32], permutation: &[u16], out: &mut [u32])
+fn mix_row(modulus: u32, numbers: &[u32], offsets: &[u32], permutation: &[u16], out: &mut [u32])
     requires { ⌜ RowReady modulus (now numbers) (now offsets) (now permutation) (length (now out)) ⌝ }
     ensures { λ _. ⌜ after out ≡ rowServer modulus (before numbers) (before offsets) (before permutation) ⌝ }
 {
