@@ -84,13 +84,15 @@ module _ (s : Slices) where
       ballot-same _ _ _ (λ q lq. opening-same _ (s .parameters) six (s .keys) (192 * j) q (ballotNumber (inputsOf s) j q) (h q lq .0 ∙ agreement.ballot-same s 0 0 j q))
 
   -- .. and of place i of list l
-  pub entry-is : (l i : ℕ) (six : List ℕ)
+  -- `a` being where its keys start
+  pub entry-is : (l i a : ℕ) (six : List ℕ) → a ≡ entryKeysAt l i
       → ((q : ℕ) → q < 6 → (item six q ≡ entryNumber (inputsOf (trail (s .parameters) (s .votes) (s .numbers) (s .permutations))) l i q) × (item six q < s .parameters .modulus))
-      → entryCommand l i (λ q. commitment (s .parameters) (InEntry l i q) (openingOf six (take (entryKeysAt l i + 192 - entryKeysAt l i) (drop (entryKeysAt l i) (s .keys))) q))
+      → entryCommand l i (λ q. commitment (s .parameters) (InEntry l i q) (openingOf six (take (a + 192 - a) (drop a (s .keys))) q))
       ≡ entryOf l i
   unfolding postedBoard entryOpening inputsOf entryKeys
-  entry-is l i six h =
-      entry-same l i _ _ (λ q lq. opening-same _ (s .parameters) six (s .keys) (entryKeysAt l i) q (entryNumber (inputsOf s) l i q) (h q lq .0 ∙ agreement.entry-same s l i q))
+  entry-is l i a six e h =
+      rw e
+      (entry-same l i _ _ (λ q lq. opening-same _ (s .parameters) six (s .keys) (entryKeysAt l i) q (entryNumber (inputsOf s) l i q) (h q lq .0 ∙ agreement.entry-same s l i q)))
 
   -- the parameters, the ballots and the lists, one behind the other
   pub part-written : {out first second third : List ℕ} {a b r : ℕ} → length out ≡ partOneLength (s .parameters) → Went out 0 (firstCommand (s .parameters)) first a

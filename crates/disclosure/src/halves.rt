@@ -49,7 +49,7 @@ fn put_if_compared(
     }
     let n = p.ballots;
     let i = places[layout::rank(mask, l) * n + j] as usize;
-    let from = KEYS_WIDTH * n + KEYS_WIDTH * (l * n + i);
+    let from = mixing::keys_at(p, l, i);
     let to = from + KEYS_WIDTH;
     let six = mixing::entry(p, votes, numbers, permutations, l, i);
     commands::put_list_half(out, at, l as u32, i as u32, side, six, &keys[from..to])

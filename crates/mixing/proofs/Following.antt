@@ -35,6 +35,9 @@ module _ {p : Parameters} {l : ℕ} (h : InList p l) where
   pub numbers-end : 5 * p .ballots + l * (9 * p .ballots) + 9 * p .ballots ≤ 5 * p .ballots + 18 * (p .compared * p .ballots)
   numbers-end = omega (arith, row-within l (2 * p .compared) (9 * p .ballots) (h .list))
 
+  pub keys-end : (i : ℕ) → i < p .ballots → 192 * p .ballots + 192 * (l * p .ballots + i) + 192 ≤ 192 * p .ballots + 384 * (p .compared * p .ballots)
+  keys-end i li = omega (arith, row-within l (2 * p .compared) (p .ballots) (h .list))
+
 -- ---- what is read
 
 module _ (s : Slices) where

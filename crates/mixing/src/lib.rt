@@ -15,6 +15,7 @@ ghost use Rattle.mixing.specs.Followed.{trail, InList, Places, Votes, Nu
 use protocol::BALLOT_NUMBERS;
 use protocol::ENTRY_NUMBERS;
 use protocol::ENTRY_PERMUTATIONS;
+use protocol::KEYS_WIDTH;
 use protocol::Parameters;
 
 // Where place i of permutation c of list l stands.
@@ -34,6 +35,17 @@ fn numbers_at(p: Parameters, l: usize) -> usize
 {
     let n = p.ballots;
     BALLOT_NUMBERS * n + l * (ENTRY_NUMBERS * n)
+}
+
+// Where the keys of place i of list l start.
+pub fn keys_at(p: Parameters, l: usize, i: usize) -> usize
+    requires { ⌜ InList p l × (i < p .ballots) ⌝ }
+    ensures { λ r.
+        let n = p .ballots in
+        ⌜ (r ≡ 192 * n + 192 * (l * n + i)) × (r + 192 ≤ 192 * n + 384 * (p .compared * n)) ⌝ }
+{
+    let n = p.ballots;
+    KEYS_WIDTH * n + KEYS_WIDTH * (l * n + i)
 }
 
 // Where column c of list l takes place i from.

@@ -6,6 +6,7 @@ use lib.ListN.{length}
 use Rattle.laws.specs.Chunks.{chunks}
 use Rattle.laws.specs.Writing.{Went, start, go-turn, go-same, part-length}
 use Rattle.protocol.specs.Inputs.{Slices, given}
+use Rattle.mixing.specs.Followed.{InList}
 use Rattle.mixing.proofs.Agreement as agreement
 use Rattle.commands.proofs.Operands.{room-even}
 use Rattle.board.proofs.Commands.{entryOf, entry-wide, keys-within, entry-is}
@@ -35,36 +36,46 @@ within : (c : tie.In-loop Inv-loop μ-loop)
     → (192 * start-of c .args .p .ballots + 192 * (start-of c .args .l * start-of c .args .p .ballots + c .before .loop .i) + 192 ≤ length (start-of c .args .keys .now)) × (length (start-of c .args .keys .now) ≤ 4915200)
 within c = keys-within (slices (start-of c)) (start-of c .pre .0) (start-of c .args .l) (c .before .loop .i) (start-of c .pre .1 .0) (omega arith)
 
+in-list : (c : tie.In-loop Inv-loop μ-loop) → InList (start-of c .args .p) (start-of c .args .l)
+in-list c = agreement.in-list (slices (start-of c)) (start-of c .pre .0 .tests) (start-of c .pre .1 .0)
+
+keys-at-requires : tie.Need-keys-at-requires Inv-loop μ-loop
+keys-at-requires c κs = (in-list c, omega arith)
+
 entry-requires : tie.Need-entry-requires Inv-loop μ-loop
 entry-requires c κs =
-    let s = slices (start-of c) in
-    let tests = start-of c .pre .0 .tests in
-    (agreement.votes s tests, (agreement.numbers s tests, (agreement.places s tests, (agreement.in-list s tests (start-of c .pre .1 .0), omega arith))))
+    let s = slices (start-of (c .before)) in
+    let tests = start-of (c .before) .pre .0 .tests in
+    (agreement.votes s tests, (agreement.numbers s tests, (agreement.places s tests, (in-list (c .before), omega arith))))
 
 cast-put-entry : tie.Need-cast-put-entry Inv-loop μ-loop
-cast-put-entry c = omega (arith, start-of (c .before .before) .pre .0 .tests .compared-high)
+cast-put-entry c = omega (arith, start-of (c .before .before .before) .pre .0 .tests .compared-high)
 
 cast-put-entry-2 : tie.Need-cast-put-entry-2 Inv-loop μ-loop
-cast-put-entry-2 c = omega (arith, start-of (c .before .before) .pre .0 .tests .ballots-high)
+cast-put-entry-2 c = omega (arith, start-of (c .before .before .before) .pre .0 .tests .ballots-high)
 
 put-entry-requires : tie.Need-put-entry-requires Inv-loop μ-loop
 put-entry-requires c κs =
-    let turn = c .before .before .before in
+    let turn = c .before .before .before .before in
     let s = slices (start-of turn) in
     let l = start-of turn .args .l in
-    let at = turn .before .loop in (
-      part-length (s .keys) (192 * s .parameters .ballots + 192 * (l * s .parameters .ballots + at .i)) 192 (within turn .0),
+    let at = turn .before .loop in
+    let from = c .before .before .before .keys-at in (
+      part-length (s .keys) (from .result) 192 (omega (arith, from .ensures .0, within turn .0)),
       room-even (entryOf s l) 196 (at .i) (s .parameters .ballots) (λ i li. entry-wide s l i) (at .inv .1) (start-of turn .pre .1 .1) (omega arith),
     )
 
 loop-again : tie.Need-loop-again Inv-loop μ-loop
 loop-again c =
-    let turn = c .before .before .before .before .before .before in
+    let turn = c .before .before .before .before .before .before .before in
     let s = slices (start-of turn) in
     let l = start-of turn .args .l in
-    let at = turn .before .loop in (
+    let at = turn .before .loop in
+    let from = c .before .before .before .before .before .before .keys-at in
+    let six = c .before .before .before .before .before .entry in (
       omega arith,
-      go-turn (entryOf s l) (at .i) (at .inv .1) (go-same (c .before .before .put-entry .ensures) (entry-is s l (at .i) (c .before .before .before .before .before .entry .result) (c .before .before .before .before .before .entry .ensures))),
+      go-turn (entryOf s l) (at .i) (at .inv .1)
+          (go-same (c .before .before .put-entry .ensures) (entry-is s l (at .i) (from .result) (six .result) (from .ensures .0) (six .ensures))),
     )
 
 returns : tie.Need-returns Inv-loop μ-loop
@@ -79,18 +90,14 @@ put-entries-spec =
     Inv-loop
     μ-loop
     loop-holds
-    (λ c. omega (arith, within c))
-    (λ c. omega (arith, within c))
-    (λ c. omega (arith, within c))
-    (λ c. omega (arith, within c))
-    (λ c. omega (arith, within c))
-    (λ c. omega (arith, within c))
+    keys-at-requires
+    (λ c. omega (arith, c .keys-at .ensures .0, within (c .before)))
     entry-requires
     cast-put-entry
     cast-put-entry-2
     (λ c. omega arith)
     (λ c. omega arith)
-    (λ c. omega (arith, within (c .before .before)))
+    (λ c. omega (arith, c .before .before .keys-at .ensures .0, within (c .before .before .before)))
     put-entry-requires
     (λ c. omega arith)
     (λ c. omega arith)

@@ -10,6 +10,7 @@ use Rattle.protocol.specs.Terms.{item, mostBallots}
 use Rattle.protocol.specs.Record.{listHalfCommand}
 use Rattle.protocol.specs.Inputs.{Slices, given, inputsOf}
 use Rattle.protocol.specs.Servers.{linkPosition, entryOpening}
+use Rattle.mixing.specs.Followed.{InList}
 use Rattle.mixing.proofs.Agreement.{votes, numbers, places, in-list}
 use Rattle.disclosure.proofs.Openings.{entryKeysAt, entry-keys-end, place-small, list-half-is}
 use Rattle.disclosure.proofs.FullOpenings.{when-clear, when-set}
@@ -54,31 +55,44 @@ near c = let s = c .before .before .before .before .before .before .before .befo
 keys-end : (c : tie.After-rank) → (let a = c .before .before .before .before .before .before .before .before .before .args in entryKeysAt (a .p .ballots) (a .l) (place c) + 192 ≤ length (a .keys .now))
 keys-end c = let s = c .before .before .before .before .before .before .before .before .before in entry-keys-end (slices s) (s .pre .0 .passed) (s .args .l) (place c) (s .pre .1 .1 .0) (inside c)
 
+abbrev start-of : tie.After-rank → tie.Start
+start-of c = c .before .before .before .before .before .before .before .before .before
+
+listed : (c : tie.After-rank) → InList (start-of c .args .p) (start-of c .args .l)
+listed c = in-list (slices (start-of c)) (start-of c .pre .0 .passed .tests) (start-of c .pre .1 .1 .0)
+
+keys-at-requires : tie.Need-keys-at-requires
+keys-at-requires c κs = (listed (c .before), inside (c .before))
+
 entry-requires : tie.Need-entry-requires
 entry-requires c κs =
-    let s = c .before .before .before .before .before .before .before .before .before .before in
+    let s = start-of (c .before .before) in
     let u = s .pre .0 .passed .tests in
-    (votes (slices s) u, (numbers (slices s) u, (places (slices s) u, (in-list (slices s) u (s .pre .1 .1 .0), inside (c .before)))))
+    (votes (slices s) u, (numbers (slices s) u, (places (slices s) u, (listed (c .before .before), inside (c .before .before)))))
 
 put-list-half-requires : tie.Need-put-list-half-requires
 put-list-half-requires c κs =
-    let s = c .before .before .before .before .before .before .before .before .before .before .before .before .before in (
+    let found-at = c .before .before .before .before .before in
+    let s = start-of found-at in
+    let from = c .before .before .before .keys-at in (
       s .pre .1 .1 .1 .1 .0,
       (
-        part-length (s .args .keys .now) (entryKeysAt (s .args .p .ballots) (s .args .l) (place (c .before .before .before .before))) 192 (keys-end (c .before .before .before .before)),
-        linked-one (bit (s .args .mask) (s .args .l)) (s .args .at) 112 (c .before .before .before .before .before .if1 .left) (s .pre .1 .1 .1 .1 .1),
+        part-length (s .args .keys .now) (from .result) 192 (omega (arith, from .ensures .0, keys-end found-at)),
+        linked-one (bit (s .args .mask) (s .args .l)) (s .args .at) 112 (found-at .before .if1 .left) (s .pre .1 .1 .1 .1 .1),
       ),
     )
 
 returns-2 : tie.Need-returns-2
 returns-2 c =
-    let s = c .before .before .before .before .before .before .before .before .before .before .before .before .before .before .before .before in
+    let found-at = c .before .before .before .before .before .before .before .before in
+    let s = start-of found-at in
     let a = s .args in
     let t = slices s in
-    when-set (bit (a .mask) (a .l)) [] (halfOf t (a .j) (a .side) (a .l)) (c .before .before .before .before .before .before .before .before .if1 .left)
+    let from = c .before .before .before .before .before .before .keys-at in
+    when-set (bit (a .mask) (a .l)) [] (halfOf t (a .j) (a .side) (a .l)) (found-at .before .if1 .left)
     (go-same (c .before .before .put-list-half .ensures)
-    (list-half-is t (s .pre .0 .passed) _ (a .l) (place (c .before .before .before .before .before .before .before)) (a .side) (s .pre .1 .1 .1 .1 .0) (c .before .before .before .before .before .entry .ensures)
-    ∙ ap (λ (i : ℕ). listHalfCommand (a .l) i (λ k. entryOpening (inputsOf t) (a .l) i (2 * k + a .side))) (found (c .before .before .before .before .before .before .before))))
+    (list-half-is t (s .pre .0 .passed) _ (a .l) (place found-at) (from .result) (a .side) (from .ensures .0) (s .pre .1 .1 .1 .1 .0) (c .before .before .before .before .before .entry .ensures)
+    ∙ ap (λ (i : ℕ). listHalfCommand (a .l) i (λ k. entryOpening (inputsOf t) (a .l) i (2 * k + a .side))) (found found-at)))
 
 pub put-if-compared-spec : {M : Type 1} → statement M
 put-if-compared-spec =
@@ -93,18 +107,14 @@ put-if-compared-spec =
     (λ c. omega (arith, ends c))
     (λ c. omega (arith, ends (c .before), c .before .before .before .before .before .before .before .before .before .before .pre .1 .0 .long))
     (λ c. omega (arith, inside (c .before), c .before .before .before .before .before .before .before .before .before .before .pre .0 .passed .tests .ballots-high))
-    (λ c. omega (arith, near (c .before), c .before .before .before .before .before .before .before .before .before .before .pre .0 .passed .tests .ballots-high))
-    (λ c. omega (arith, near (c .before), c .before .before .before .before .before .before .before .before .before .before .pre .0 .passed .tests .ballots-high))
-    (λ c. omega (arith, near (c .before), c .before .before .before .before .before .before .before .before .before .before .pre .0 .passed .tests .ballots-high))
-    (λ c. omega (arith, near (c .before), c .before .before .before .before .before .before .before .before .before .before .pre .0 .passed .tests .ballots-high))
-    (λ c. omega (arith, near (c .before), c .before .before .before .before .before .before .before .before .before .before .pre .0 .passed .tests .ballots-high))
-    (λ c. omega (arith, near (c .before), c .before .before .before .before .before .before .before .before .before .before .pre .0 .passed .tests .ballots-high))
+    keys-at-requires
+    (λ c. omega (arith, c .keys-at .ensures .0, near (c .before .before), start-of (c .before .before) .pre .0 .passed .tests .ballots-high))
     entry-requires
-    (λ c. omega (arith, c .before .before .before .before .before .before .before .before .before .before .before .before .pre .0 .passed .tests .compared-high))
-    (λ c. omega (arith, inside (c .before .before .before), c .before .before .before .before .before .before .before .before .before .before .before .before .pre .0 .passed .tests .ballots-high))
+    (λ c. omega (arith, start-of (c .before .before .before .before) .pre .0 .passed .tests .compared-high))
+    (λ c. omega (arith, inside (c .before .before .before .before), start-of (c .before .before .before .before) .pre .0 .passed .tests .ballots-high))
     (λ c. omega arith)
     (λ c. omega arith)
-    (λ c. omega (arith, keys-end (c .before .before .before)))
+    (λ c. omega (arith, c .before .before .keys-at .ensures .0, keys-end (c .before .before .before .before)))
     put-list-half-requires
     (λ c. omega arith)
     returns-2)

@@ -10,6 +10,7 @@ use Rattle.protocol.specs.Record.{fullCommand}
 use Rattle.protocol.specs.Inputs.{Slices, given, inputsOf}
 use Rattle.protocol.specs.Servers.{entryOpening}
 use Rattle.commands.proofs.Operands.{room-even}
+use Rattle.mixing.specs.Followed.{InList}
 use Rattle.mixing.proofs.Agreement.{votes, numbers, places, in-list}
 use Rattle.disclosure.proofs.Openings.{entryKeysAt, entry-keys-end, place-small, full-is, full-long}
 use Rattle.disclosure.proofs.opened.put_full.Statement.{statement}
@@ -38,31 +39,45 @@ near c = let s = c .before .before .before .before .before .before .before .befo
 inside : (c : tie.In-loop Inv-loop μ-loop) → (let a = c .before .before .before .before .before .before .before .before .args in entryKeysAt (a .p .ballots) (a .l) (c .before .loop .i) + 192 ≤ length (a .keys .now))
 inside c = let s = c .before .before .before .before .before .before .before .before in entry-keys-end (slices s) (s .pre .0) (s .args .l) (c .before .loop .i) (s .pre .1 .0) (omega arith)
 
+abbrev start-of : tie.In-loop Inv-loop μ-loop → tie.Start Inv-loop μ-loop
+start-of c = c .before .before .before .before .before .before .before .before
+
+listed : (c : tie.In-loop Inv-loop μ-loop) → InList (start-of c .args .p) (start-of c .args .l)
+listed c = in-list (slices (start-of c)) (start-of c .pre .0 .tests) (start-of c .pre .1 .0)
+
+keys-at-requires : tie.Need-keys-at-requires Inv-loop μ-loop
+keys-at-requires c κs = (listed c, omega arith)
+
 entry-requires : tie.Need-entry-requires Inv-loop μ-loop
 entry-requires c κs =
-    let s = slices (c .before .before .before .before .before .before .before .before) in
-    let u = c .before .before .before .before .before .before .before .before .pre .0 .tests in
-    (votes s u, (numbers s u, (places s u, (in-list s u (c .before .before .before .before .before .before .before .before .pre .1 .0), omega arith))))
+    let s = slices (start-of (c .before)) in
+    let u = start-of (c .before) .pre .0 .tests in
+    (votes s u, (numbers s u, (places s u, (listed (c .before), omega arith))))
 
 put-full-requires : tie.Need-put-full-requires Inv-loop μ-loop
 put-full-requires c κs =
-    let s = slices (c .before .before .before .before .before .before .before .before .before .before .before) in
-    let pre = c .before .before .before .before .before .before .before .before .before .before .before .pre in
-    let l = c .before .before .before .before .before .before .before .before .before .before .before .args .l in
-    let g = c .before .before .before .before .loop in (
-      part-length (s .keys) (entryKeysAt (s .parameters .ballots) l (g .i)) 192 (inside (c .before .before .before)),
+    let turn = c .before .before .before .before in
+    let s = slices (start-of turn) in
+    let pre = start-of turn .pre in
+    let l = start-of turn .args .l in
+    let g = turn .before .loop in
+    let from = c .before .before .before .keys-at in (
+      part-length (s .keys) (from .result) 192 (omega (arith, from .ensures .0, inside turn)),
       room-even (λ i. fullCommand l i (entryOpening (inputsOf s) l i)) 220 (g .i) (s .parameters .ballots) (λ i li. full-long s (pre .0) l i (pre .1 .0) li)
           (g .inv .1) (pre .1 .1) (omega arith),
     )
 
 loop-again : tie.Need-loop-again Inv-loop μ-loop
 loop-again c =
-    let s = slices (c .before .before .before .before .before .before .before .before .before .before .before .before .before .before) in
-    let l = c .before .before .before .before .before .before .before .before .before .before .before .before .before .before .args .l in
-    let g = c .before .before .before .before .before .before .before .loop in (
+    let turn = c .before .before .before .before .before .before .before in
+    let s = slices (start-of turn) in
+    let l = start-of turn .args .l in
+    let g = turn .before .loop in
+    let from = c .before .before .before .before .before .before .keys-at in (
       omega arith,
       go-turn (λ i. fullCommand l i (entryOpening (inputsOf s) l i)) (g .i) (g .inv .1)
-          (go-same (c .before .before .put-full .ensures) (full-is s (c .before .before .before .before .before .before .before .before .before .before .before .before .before .before .pre .0) _ l (g .i) (c .before .before .before .before .before .entry .ensures))),
+          (go-same (c .before .before .put-full .ensures)
+          (full-is s (start-of turn .pre .0) _ l (g .i) (from .result) (from .ensures .0) (c .before .before .before .before .before .entry .ensures))),
     )
 
 returns : tie.Need-returns Inv-loop μ-loop
@@ -77,18 +92,14 @@ put-full-spec =
     Inv-loop
     μ-loop
     loop-holds
-    (λ c. omega (arith, near c))
-    (λ c. omega (arith, near c))
-    (λ c. omega (arith, near c))
-    (λ c. omega (arith, near c))
-    (λ c. omega (arith, near c))
-    (λ c. omega (arith, near c))
+    keys-at-requires
+    (λ c. omega (arith, c .keys-at .ensures .0, near (c .before)))
     entry-requires
     (λ c. omega arith)
     (λ c. omega arith)
     (λ c. omega arith)
     (λ c. omega arith)
-    (λ c. omega (arith, inside (c .before .before)))
+    (λ c. omega (arith, c .before .before .keys-at .ensures .0, inside (c .before .before .before)))
     put-full-requires
     (λ c. omega arith)
     (λ c. omega arith)
