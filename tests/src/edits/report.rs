@@ -35,15 +35,19 @@ pub enum Verdict {
 
 /// The words by which an error is known, the first that fit. Every kind was seen in reports of this
 /// kit; whatever another one says is unknown until it is read and listed here.
-const WORDS: [(&str, Kind); 13] = [
+const WORDS: [(&str, Kind); 17] = [
     ("was not admitted (", Kind::Consequence),
     ("that can be named from here", Kind::Consequence),
     ("has no field", Kind::Consequence),
     ("does not follow from what it read", Kind::Unproved),
+    ("`omega` found no proof, and no values at which the goal fails", Kind::Unproved),
+    ("`omega` stopped at a bound of its own", Kind::Unproved),
     ("`search`: no proof of ", Kind::Unproved),
+    ("`search` broke off: the call's work took more than", Kind::Unproved),
     ("`cc` met a bound of its own before the equations had joined", Kind::Unproved),
     ("`rw` has no last argument, so what it leaves must be a path", Kind::Unproved),
     ("`rw`: no occurrence of the path's left endpoint in the goal", Kind::Differs),
+    ("`rw`: no occurrence of the path's left endpoint in the hypothesis's type", Kind::Differs),
     ("the two types differ only where", Kind::Differs),
     ("the two types first differ where", Kind::Differs),
     ("the two sides differ only where", Kind::Differs),
