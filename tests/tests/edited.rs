@@ -1,9 +1,12 @@
 //! Calls of public functions as no face makes them, so that their edits are tried on these too;
 //! with the feature `edited`. The program alone calls `put_result`.
 
+use paddockyear_tests::boards::inputs;
 use paddockyear_tests::boards::samples::files;
-use paddockyear_tests::edited::protocol::Verdict;
-use paddockyear_tests::edited::{results, verifier, wire};
+use paddockyear_tests::edited::protocol::{Verdict, Written};
+use paddockyear_tests::edited::{disclosure, results, verifier, wire};
+use paddockyear_tests::random::Random;
+use paddockyear_tests::reference::terms::Parameters;
 
 #[test]
 fn slices_of_two_lengths() {
@@ -37,4 +40,29 @@ fn dice() {
         assert_eq!(verifier::judge_plainly(&board), Verdict::Accepted);
         verifier::judge_as_drawn(&board);
     }
+}
+
+/// More places of ballots in compared lists than one list can have.
+#[test]
+fn places_of_twelve_lists() {
+    let (random, parameters) = (&mut Random::new(62), Parameters { modulus: 100, n: 90, m: 12 });
+    let given = inputs(random, parameters);
+    let [_, _, length] = parameters.part_lengths();
+    let (dice, mask, sides) = (random.dice(), random.mask(12), random.sides(90));
+    let mut out = vec![0; length];
+    let answer = disclosure::part_three(
+        100,
+        90,
+        12,
+        &given.ids,
+        &given.votes,
+        &given.numbers,
+        &given.permutations,
+        &given.keys,
+        &dice,
+        mask,
+        &sides,
+        &mut out,
+    );
+    assert_eq!(answer, Written::Done);
 }
