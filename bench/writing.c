@@ -11,7 +11,7 @@
 #include <string.h>
 
 #define MODULUS UINT32_MAX
-#define AIM 1.25
+#define AIM 1.06
 
 enum { REPETITIONS = 20, PARTS = 3 };
 enum { BALLOTS = 1024, COMPARED = 12, LISTS = 2 * COMPARED, PLACES = COMPARED * BALLOTS };
