@@ -1,4 +1,4 @@
--- `results::receipts::receipt_among` meets its contract: the answer of the ballots passed. Assumes nothing.
+-- `results::receipts::receipt_among` meets its contract: the answer of the ballots passed.
 use mathlib.Core.Path.{_≡_, refl, ap, _∙_}
 use Prim.Native.Nat.{ℕ, _+_, _-_, _≤_}
 use native.Mathlib.Numerals.{add-one}
