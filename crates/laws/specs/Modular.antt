@@ -49,6 +49,13 @@ pub minus-add : (M a b : ℕ) → b ≤ M → (minus M a b + b) % M ≡ a % M
 unfolding minus
 minus-add M a b h = mod-add-mod (a + (M - b)) M b ∙ cong M (a + (M - b) + b) a 0 1 (omega arith)
 
+-- of three numbers that sum to w, what the first two leave
+pub third-of : (M w x y z : ℕ) → x ≤ M → y ≤ M → z < M → (x + y + z) % M ≡ w % M → minus M (minus M w x) y ≡ z
+unfolding minus
+third-of M w x y z hx hy hz h =
+    cong M (minus M w x + (M - y)) z ((w + (M - x)) / M + (x + y + z) / M) (2 + w / M) (omega (arith, div-add-mod' (w + (M - x)) M, out M (x + y + z) w h))
+    ∙ mod-eq-of-lt hz
+
 -- ---- for code: by comparing and subtracting
 
 pub plus-over : (M a b : ℕ) → a < M → b < M → M - b ≤ a → a - (M - b) ≡ plus M a b

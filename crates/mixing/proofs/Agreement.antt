@@ -25,10 +25,6 @@ module _ (s : Slices) {lengths fair shape binary : Bool} (u : Unrefused s length
   in-list h = record { few = u .ballots-high; few-lists = u .compared-high; list = h }
 
 module _ (s : Slices) (l i : ℕ) where
-  pub source-same : sourceOf (inputsOf (trail (s .parameters) [] [] (s .permutations))) l i ≡ sourceOf (inputsOf s) l i
-  unfolding sourceOf inputsOf listPermutations
-  source-same = refl
-
   pub position-same : linkPosition (inputsOf (trail (s .parameters) [] [] (s .permutations))) l i ≡ linkPosition (inputsOf s) l i
   unfolding linkPosition sourceOf inputsOf listPermutations
   position-same = refl

@@ -3,7 +3,7 @@ use mathlib.Core.Path.{_≡_, refl, sym, ap, ap₂, _∙_}
 use mathlib.Core.Logic.{_≢_}
 use mathlib.Core.List.{List, [], _∷_}
 use Prim.Native.Nat.{ℕ, zero, suc, _+_, _*_, _/_, _%_, _≤_, _<_}
-use native.Mathlib.Nat.{mul-le-mul-right}
+use native.Mathlib.Nat.{le-of-lt, mul-le-mul-right}
 use native.Mathlib.Omega.{arith}
 use native.Mathlib.Decide.{ℕ-discrete}
 use lib.ListN.{length, set}
@@ -11,7 +11,7 @@ use lib.Seq.{getD-set-same, getD-set-other}
 use Rattle.laws.specs.Tests.{choose}
 use Rattle.laws.specs.Bytes.{Below}
 use Rattle.laws.specs.Chunks.{get-piece}
-use Rattle.laws.specs.Modular.{plus, minus}
+use Rattle.laws.specs.Modular.{plus, minus, plus-below, third-of}
 use Rattle.laws.specs.Permutations.{Perm, perm-then, whence, whence-of}
 use Rattle.laws.specs.Writing.{row-within}
 use Rattle.protocol.specs.declared.Parameters.{Parameters}
@@ -21,7 +21,8 @@ use Rattle.protocol.specs.Columns.{row, thirdOffset, source}
 use Rattle.protocol.specs.Layout.{lists}
 use Rattle.protocol.specs.Inputs.{Slices, Inputs, ballotNumbers, listNumbers, listPermutations, inputsOf}
 use Rattle.protocol.specs.Servers.{ballotRow, ballotNumber, rowOffset, column, mixed, sourceOf, entryNumber, sumOfHalves}
-use Rattle.mixing.specs.Followed.{trail, InList, Places, threeAt, sumOfItems}
+use Rattle.protocol.proofs.Mixing.{rows-make-vote}
+use Rattle.mixing.specs.Followed.{trail, InList, Places, Numbers, threeAt, sumOfItems}
 
 -- ---- places
 
@@ -59,14 +60,15 @@ module _ (s : Slices) where
   unfolding listNumbers
   number-is l k a lk e = ap (item (s .numbers)) e ∙ sym (get-piece (s .numbers) (5 * s .parameters .ballots + l * (9 * s .parameters .ballots)) (9 * s .parameters .ballots) k lk)
 
-  pub offset-is : (l c k i a : ℕ) → c < 3 → i < s .parameters .ballots → a ≡ 5 * s .parameters .ballots + l * (9 * s .parameters .ballots) + (c * (2 * s .parameters .ballots) + 2 * i)
-      → share (s .parameters .modulus) 0 (item (s .numbers) a) (item (s .numbers) (a + 1)) k ≡ rowOffset (inputsOf s) l c k i
-  unfolding rowOffset share thirdOffset inputsOf
-  offset-is l c k i a lc li e =
-      let end = row-within c 3 (2 * s .parameters .ballots) lc in
-      ap₂ (λ (x y : ℕ). share (s .parameters .modulus) 0 x y k)
-      (number-is l (c * (2 * s .parameters .ballots) + (2 * i + 0)) a (omega (arith, end)) (omega arith))
-      (number-is l (c * (2 * s .parameters .ballots) + (2 * i + 1)) (a + 1) (omega (arith, end)) (omega arith))
+  -- an offset that is given: row one's or row two's
+  pub offset-is : (l c k i a : ℕ) → c < 3 → k < 2 → i < s .parameters .ballots
+      → a ≡ 5 * s .parameters .ballots + l * (9 * s .parameters .ballots) + (c * (2 * s .parameters .ballots) + 2 * i) + k → item (s .numbers) a ≡ rowOffset (inputsOf s) l c k i
+  unfolding rowOffset inputsOf
+  offset-is l c zero i a lc lk li e =
+      number-is l (c * (2 * s .parameters .ballots) + (2 * i + 0)) a (omega (arith, row-within c 3 (2 * s .parameters .ballots) lc)) (omega arith)
+  offset-is l c (suc zero) i a lc lk li e =
+      number-is l (c * (2 * s .parameters .ballots) + (2 * i + 1)) a (omega (arith, row-within c 3 (2 * s .parameters .ballots) lc)) (omega arith)
+  offset-is l c (suc (suc k)) i a lc lk li e = absurd (omega arith)
 
 -- ---- the way back
 
@@ -85,6 +87,45 @@ module _ (p : Parameters) (votes numbers permutations : List ℕ) (l k i : ℕ) 
 pub source-is : (s : Inputs) (l i : ℕ) {a b j : ℕ} → a ≡ s .permutation l 2 i → b ≡ s .permutation l 1 a → j ≡ s .permutation l 0 b → j ≡ sourceOf s l i
 unfolding sourceOf source
 source-is s l i ea eb ej = rw (ej, eb, ea)
+
+-- ---- the third row
+
+mixed-below : (s : Inputs) (l k i : ℕ) → 0 < s .parameters .modulus → mixed s l k i < s .parameters .modulus
+unfolding mixed column row
+mixed-below s l k i pos = plus-below (s .parameters .modulus) _ _ pos
+
+module _ (p : Parameters) (votes numbers permutations : List ℕ) (l i : ℕ) (ns : Numbers p numbers) (ps : Places p permutations) (ll : InList p l) (li : i < p .ballots) where
+  all : Inputs
+  all = inputsOf (trail p votes numbers permutations)
+
+  shares-small : (j : ℕ) → j < p .ballots → (all .x j ≤ p .modulus) × (all .y j ≤ p .modulus)
+  unfolding all inputsOf ballotNumbers
+  shares-small j lj = (
+    rw (get-piece numbers (5 * j) 5 0 (omega arith)) (le-of-lt (ns .small (5 * j + 0) (omega (arith, ns .long)))),
+    rw (get-piece numbers (5 * j) 5 1 (omega arith)) (le-of-lt (ns .small (5 * j + 1) (omega (arith, ns .long)))),
+  )
+
+  offsets-small : (c k j : ℕ) → c < 3 → k < 2 → j < p .ballots → all .offset l c k j ≤ p .modulus
+  unfolding all inputsOf listNumbers
+  offsets-small c k j lc lk lj =
+      let at = c * (2 * p .ballots) + (2 * j + k) in
+      let end = row-within c 3 (2 * p .ballots) lc in
+      rw (get-piece numbers (5 * p .ballots + l * (9 * p .ballots)) (9 * p .ballots) at (omega (arith, end)))
+      (le-of-lt (ns .small (5 * p .ballots + l * (9 * p .ballots) + at) (omega (arith, end, ns .long, numbers-end ll))))
+
+  places-small : (c j : ℕ) → c < 3 → j < p .ballots → all .permutation l c j < p .ballots
+  unfolding all inputsOf listPermutations
+  places-small c j lc lj = ps .perms l c (ll .list) lc .below j lj
+
+  -- what the first two rows leave of the vote that is mixed to the place
+  pub third-is : {x y z j : ℕ} → x ≡ mixed (inputsOf (trail p votes numbers permutations)) l 0 i → y ≡ mixed (inputsOf (trail p votes numbers permutations)) l 1 i
+      → j ≡ sourceOf (inputsOf (trail p [] [] permutations)) l i → z ≡ minus (p .modulus) (minus (p .modulus) (item votes j) x) y
+      → z ≡ mixed (inputsOf (trail p votes numbers permutations)) l 2 i
+  unfolding all sourceOf source inputsOf listPermutations
+  third-is ex ey ej ez =
+      rw (ez, ej, ex, ey)
+      (third-of (p .modulus) _ _ _ _ (le-of-lt (mixed-below all l 0 i (ns .positive))) (le-of-lt (mixed-below all l 1 i (ns .positive))) (mixed-below all l 2 i (ns .positive))
+      (rows-make-vote all l shares-small offsets-small places-small i li))
 
 -- ---- three numbers, each split by its first half
 

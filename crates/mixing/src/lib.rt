@@ -87,20 +87,20 @@ fn ballot_share(p: Parameters, votes: &[u32], numbers: &[u32], k: usize, j: usiz
     )
 }
 
-// Row k's offset in column c of list l at place i: rows one and two are given, row three's is worked out.
+// Row k's offset in column c of list l at place i, of rows one and two, which are given. Row three's is asked for by nobody here.
 fn offset(p: Parameters, numbers: &[u32], l: usize, c: usize, k: usize, i: usize) -> u32
-    requires { ⌜ Numbers p (now numbers) × (InList p l × ((c < 3) × (i < p .ballots))) ⌝ }
+    requires { ⌜ Numbers p (now numbers) × (InList p l × ((c < 3) × ((k < 2) × (i < p .ballots)))) ⌝ }
     ensures { λ r.
         let s = inputsOf (trail p [] (before numbers) []) in
         ⌜ (r ≡ rowOffset s l c k i) × (r < p .modulus) ⌝ }
 {
     let start = numbers_at(p, l);
     let n = p.ballots;
-    let at = start + (c * (2 * n) + 2 * i);
-    shares::share(p.modulus, 0, numbers[at], numbers[at + 1], k)
+    let at = start + (c * (2 * n) + 2 * i) + k;
+    numbers[at]
 }
 
-// Row k of list l at place i.
+// Row k of list l at place i, of rows one and two.
 fn mixed(
     p: Parameters,
     votes: &[u32],
@@ -110,7 +110,7 @@ fn mixed(
     k: usize,
     i: usize,
 ) -> u32
-    requires { ⌜ Votes p (now votes) × (Numbers p (now numbers) × (Places p (now permutations) × (InList p l × (i < p .ballots)))) ⌝ }
+    requires { ⌜ Votes p (now votes) × (Numbers p (now numbers) × (Places p (now permutations) × (InList p l × ((k < 2) × (i < p .ballots))))) ⌝ }
     ensures { λ r.
         let s = inputsOf (trail p (before votes) (before numbers) (before permutations)) in
         ⌜ (r ≡ servers.mixed s l k i) × (r < p .modulus) ⌝ }
@@ -153,7 +153,7 @@ pub fn ballot(p: Parameters, votes: &[u32], numbers: &[u32], j: usize) -> [u32; 
     shares::split(p.modulus, [x, y, z], three(numbers, BALLOT_NUMBERS * j + 2))
 }
 
-// The six numbers of place i of list l.
+// The six numbers of place i of list l. The third row is what the first two leave of the vote, since the three rows' offsets add to 0.
 pub fn entry(
     p: Parameters,
     votes: &[u32],
@@ -169,7 +169,8 @@ pub fn entry(
 {
     let x = mixed(p, votes, numbers, permutations, l, 0, i);
     let y = mixed(p, votes, numbers, permutations, l, 1, i);
-    let z = mixed(p, votes, numbers, permutations, l, 2, i);
+    let vote = votes[source(p, permutations, l, i)];
+    let z = modular::less_two(p.modulus, vote, x, y);
     let start = numbers_at(p, l);
     let n = p.ballots;
     shares::split(

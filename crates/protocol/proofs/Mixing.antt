@@ -83,6 +83,56 @@ shift-second : (M u u′ v v′ t : ℕ) → u % M ≡ (u′ + t) % M → (u + v
 shift-second M u u′ v v′ t p q =
     cong M (v + t) v′ (u / M + (u′ + v′) / M) ((u + v) / M + (u′ + t) / M) (omega (arith, out M u (u′ + t) p, out M (u + v) (u′ + v′) q))
 
+-- ---- what the servers mix
+
+-- the three rows of the ballots
+row-sum : (s : Inputs) (j : ℕ) → s .x j ≤ s .parameters .modulus → s .y j ≤ s .parameters .modulus
+    → (ballotRow s 0 j + ballotRow s 1 j + ballotRow s 2 j) % s .parameters .modulus ≡ s .vote j % s .parameters .modulus
+unfolding ballotRow
+row-sum s j hx hy = shares-sum (s .parameters .modulus) (s .vote j) (s .x j) (s .y j) hx hy
+
+-- All that the sum of an entry's three numbers asks of the inputs: the numbers given of the ballots and of list l are at most M, and its
+-- permutations lead to ballots.
+module _ (s : Inputs) (l : ℕ)
+    (shares : (j : ℕ) → j < s .parameters .ballots → (s .x j ≤ s .parameters .modulus) × (s .y j ≤ s .parameters .modulus))
+    (offsets : (c k i : ℕ) → c < 3 → k < 2 → i < s .parameters .ballots → s .offset l c k i ≤ s .parameters .modulus)
+    (places : (c i : ℕ) → c < 3 → i < s .parameters .ballots → s .permutation l c i < s .parameters .ballots) where
+  -- "At each place the three rows' offsets add to 0 modulo M"
+  offset-sum : (c i : ℕ) → c < 3 → i < s .parameters .ballots
+      → (rowOffset s l c 0 i + rowOffset s l c 1 i + rowOffset s l c 2 i) % s .parameters .modulus ≡ 0 % s .parameters .modulus
+  unfolding rowOffset
+  offset-sum c i lc li =
+      third-sum (s .parameters .modulus) (s .offset l c 0 i) (s .offset l c 1 i) (offsets c 0 i lc (omega arith) li) (offsets c 1 i lc (omega arith) li)
+
+  -- a column keeps the sum of the three rows
+  column-sum : (c : ℕ) (x y z : ℕ → ℕ) (i : ℕ) → c < 3 → i < s .parameters .ballots
+      → (column s l c 0 x i + column s l c 1 y i + column s l c 2 z i) % s .parameters .modulus
+      ≡ (x (s .permutation l c i) + y (s .permutation l c i) + z (s .permutation l c i)) % s .parameters .modulus
+  unfolding column
+  column-sum c x y z i lc li =
+      rows-sum (s .parameters .modulus) (rowOffset s l c 0) (rowOffset s l c 1) (rowOffset s l c 2) (s .permutation l c) x y z i
+      (offset-sum c (s .permutation l c i) lc (places c i lc li))
+
+  -- all that is used of the mixing: the three numbers at a place sum to the vote mixed to it
+  pub rows-make-vote : (i : ℕ) → i < s .parameters .ballots
+      → (mixed s l 0 i + mixed s l 1 i + mixed s l 2 i) % s .parameters .modulus ≡ s .vote (sourceOf s l i) % s .parameters .modulus
+  unfolding mixed sourceOf source
+  rows-make-vote i li =
+      let p : ℕ = s .permutation l 2 i in
+      let lp : p < s .parameters .ballots = places 2 i (omega arith) li in
+      let q : ℕ = s .permutation l 1 p in
+      let lq : q < s .parameters .ballots = places 1 p (omega arith) lp in
+      column-sum 2 (two 0) (two 1) (two 2) i (omega arith) li
+      ∙ column-sum 1 (one 0) (one 1) (one 2) p (omega arith) lp
+      ∙ column-sum 0 (ballotRow s 0) (ballotRow s 1) (ballotRow s 2) q (omega arith) lq
+      ∙ row-sum s (s .permutation l 0 q) (shares (s .permutation l 0 q) (places 0 q (omega arith) lq) .0) (shares (s .permutation l 0 q) (places 0 q (omega arith) lq) .1)
+    where
+      one : ℕ → ℕ → ℕ
+      one k = column s l 0 k (ballotRow s k)
+
+      two : ℕ → ℕ → ℕ
+      two k = column s l 1 k (one k)
+
 -- ---- the numbers of good inputs
 
 module _ (s : Inputs) (g : Good s) where
@@ -104,48 +154,13 @@ module _ (s : Inputs) (g : Good s) where
 
   -- ---- what the servers mix
 
-  -- the three rows of the ballots
-  row-sum : (j : ℕ) → j < s .parameters .ballots
-      → (ballotRow s 0 j + ballotRow s 1 j + ballotRow s 2 j) % s .parameters .modulus ≡ s .vote j % s .parameters .modulus
-  unfolding ballotRow
-  row-sum j lj = shares-sum (s .parameters .modulus) (s .vote j) (s .x j) (s .y j) (le-of-lt (g .x-below j lj)) (le-of-lt (g .y-below j lj))
+  shares-below : (j : ℕ) → j < s .parameters .ballots → (s .x j ≤ s .parameters .modulus) × (s .y j ≤ s .parameters .modulus)
+  shares-below j lj = (le-of-lt (g .x-below j lj), le-of-lt (g .y-below j lj))
 
-  -- "At each place the three rows' offsets add to 0 modulo M"
-  offset-sum : (l c i : ℕ) → l < lists (s .parameters) → c < 3 → i < s .parameters .ballots
-      → (rowOffset s l c 0 i + rowOffset s l c 1 i + rowOffset s l c 2 i) % s .parameters .modulus ≡ 0 % s .parameters .modulus
-  unfolding rowOffset
-  offset-sum l c i ll lc li =
-      third-sum (s .parameters .modulus) (s .offset l c 0 i) (s .offset l c 1 i) (le-of-lt (g .offsets-below l c 0 i ll lc (omega arith) li))
-      (le-of-lt (g .offsets-below l c 1 i ll lc (omega arith) li))
-
-  -- a column keeps the sum of the three rows
-  column-sum : (l c : ℕ) (x y z : ℕ → ℕ) (i : ℕ) → l < lists (s .parameters) → c < 3 → i < s .parameters .ballots
-      → (column s l c 0 x i + column s l c 1 y i + column s l c 2 z i) % s .parameters .modulus
-      ≡ (x (s .permutation l c i) + y (s .permutation l c i) + z (s .permutation l c i)) % s .parameters .modulus
-  unfolding column
-  column-sum l c x y z i ll lc li =
-      rows-sum (s .parameters .modulus) (rowOffset s l c 0) (rowOffset s l c 1) (rowOffset s l c 2) (s .permutation l c) x y z i
-      (offset-sum l c (s .permutation l c i) ll lc (g .permutations l c ll lc .below i li))
-
-  -- all that is used of the mixing: the three numbers at a place sum to the vote mixed to it
   pub mixed-sum : (l i : ℕ) → l < lists (s .parameters) → i < s .parameters .ballots
       → (mixed s l 0 i + mixed s l 1 i + mixed s l 2 i) % s .parameters .modulus ≡ s .vote (sourceOf s l i) % s .parameters .modulus
-  unfolding mixed sourceOf source
   mixed-sum l i ll li =
-      let p : ℕ = s .permutation l 2 i in
-      let lp : p < s .parameters .ballots = g .permutations l 2 ll (omega arith) .below i li in
-      let q : ℕ = s .permutation l 1 p in
-      let lq : q < s .parameters .ballots = g .permutations l 1 ll (omega arith) .below p lp in
-      column-sum l 2 (two 0) (two 1) (two 2) i ll (omega arith) li
-      ∙ column-sum l 1 (one 0) (one 1) (one 2) p ll (omega arith) lp
-      ∙ column-sum l 0 (ballotRow s 0) (ballotRow s 1) (ballotRow s 2) q ll (omega arith) lq
-      ∙ row-sum (s .permutation l 0 q) (g .permutations l 0 ll (omega arith) .below q lq)
-    where
-      one : ℕ → ℕ → ℕ
-      one k = column s l 0 k (ballotRow s k)
-
-      two : ℕ → ℕ → ℕ
-      two k = column s l 1 k (one k)
+      rows-make-vote s l shares-below (λ c k j lc lk lj. le-of-lt (g .offsets-below l c k j ll lc lk lj)) (λ c j lc lj. g .permutations l c ll lc .below j lj) i li
 
   -- ---- where the ballots go
 
@@ -169,7 +184,7 @@ module _ (s : Inputs) (g : Good s) where
       ≡ s .vote j % s .parameters .modulus
   unfolding ballotNumber
   ballot-sum j lj =
-      slots-sum (s .parameters .modulus) (λ k. ballotRow s k j) (s .firstHalf j) (λ k lk. le-of-lt (g .first-halves-below j k lj lk)) ∙ row-sum j lj
+      slots-sum (s .parameters .modulus) (λ k. ballotRow s k j) (s .firstHalf j) (λ k lk. le-of-lt (g .first-halves-below j k lj lk)) ∙ row-sum s j (shares-below j lj .0) (shares-below j lj .1)
 
   pub entry-sum : (l i : ℕ) → l < lists (s .parameters) → i < s .parameters .ballots
       → (entryNumber s l i 0 + entryNumber s l i 2 + entryNumber s l i 4 + (entryNumber s l i 1 + entryNumber s l i 3 + entryNumber s l i 5)) % s .parameters .modulus

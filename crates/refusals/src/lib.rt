@@ -278,11 +278,9 @@ pub fn part_two_drawn(
     if !limits::in_limits(p) {
         return 3;
     }
-    let parts = both(
-        one_len == layout::at_first_dice(p),
-        out_len == part_two_length(p),
-    );
-    if !both(dice.len() == 30, parts) {
+    let one = one_len == layout::at_first_dice(p);
+    let two = out_len == part_two_length(p);
+    if !both(dice.len() == 30, both(one, two)) {
         return 18;
     }
     let fair = limits::fair_dice(dice, 0);
@@ -383,10 +381,10 @@ pub fn draw(p: Parameters, dice: &[u8], one_len: usize) -> u32
     if !both(dice.len() == 30, one_len == layout::at_first_dice(p)) {
         return 18;
     }
-    if !limits::fair_dice(dice, 0) {
-        return 6;
+    if limits::fair_dice(dice, 0) {
+        return 0;
     }
-    0
+    6
 }
 
 // All three parts and the record that they make. Mask and sides are each given or drawn: where a switch says drawn, what is lent in their

@@ -5,8 +5,11 @@ use borrow.Author.Needs.{needs}
 use Rattle.mixing.proofs.mixed.Statement.{statement}
 use Rattle.mixing.proofs.mixed.Tie as tie
 
+offset-requires-2 : tie.Need-offset-requires-2
+offset-requires-2 c κs = let pre = c .before .before .before .before .before .before .before .before .before .pre in (pre .1 .0, (pre .1 .1 .1 .0, (omega arith, (pre .1 .1 .1 .1 .0, c .before .before .before .before .from2 .ensures .1))))
+
 offset-requires-3 : tie.Need-offset-requires-3
-offset-requires-3 c κs = let pre = c .before .before .before .before .before .before .before .before .before .before .before .pre in (pre .1 .0, (pre .1 .1 .1 .0, (omega arith, c .before .before .before .before .before .before .before .from .ensures .1)))
+offset-requires-3 c κs = let pre = c .before .before .before .before .before .before .before .before .before .before .before .pre in (pre .1 .0, (pre .1 .1 .1 .0, (omega arith, (pre .1 .1 .1 .1 .0, c .before .before .before .before .before .before .before .from .ensures .1))))
 
 returns : tie.Need-returns
 returns c = (
@@ -25,7 +28,7 @@ mixed-spec =
     (λ c κs. search needs)
     (λ c κs. search needs)
     (λ c κs. search needs)
-    (λ c κs. search needs)
+    offset-requires-2
     (λ c κs. search needs)
     offset-requires-3
     (λ c κs. search needs)

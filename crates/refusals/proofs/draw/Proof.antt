@@ -1,5 +1,5 @@
 -- `refusals::draw` meets its contract: limits, lengths, then the rest.
-use mathlib.Core.Path.{_≡_, refl, _∙_}
+use mathlib.Core.Path.{_≡_, refl, sym, _∙_}
 use mathlib.Core.Bool.{true}
 use native.Mathlib.Omega.{arith}
 use lib.ListN.{length}
@@ -39,15 +39,13 @@ returns-3 : tie.Need-returns-3
 unfolding drawRefusal
 returns-3 c =
     rule-go _ _ _ (limits (c .before .before .before .before .before))
-    (rule-go _ _ _ (held (lengths (c .before .before .before)) (c .before .before .if2 .left))
-    (rule-stop _ _ _ (failed (c .before .fair-dice .ensures ∙ fair-whole _ (dice-long (c .before .before))) (c .if3 .taken))))
+    (rule-go _ _ _ (held (lengths (c .before .before .before)) (c .before .before .if2 .left)) (rule-go _ _ _ (sym (c .before .fair-dice .ensures ∙ fair-whole _ (dice-long (c .before .before))) ∙ c .if3 .taken) refl))
 
 returns-4 : tie.Need-returns-4
 unfolding drawRefusal
 returns-4 c =
     rule-go _ _ _ (limits (c .before .before .before .before .before))
-    (rule-go _ _ _ (held (lengths (c .before .before .before)) (c .before .before .if2 .left))
-    (rule-go _ _ _ (held (c .before .fair-dice .ensures ∙ fair-whole _ (dice-long (c .before .before))) (c .if3 .left)) refl))
+    (rule-go _ _ _ (held (lengths (c .before .before .before)) (c .before .before .if2 .left)) (rule-stop _ _ _ (sym (c .before .fair-dice .ensures ∙ fair-whole _ (dice-long (c .before .before))) ∙ c .if3 .left)))
 
 pub draw-spec : {M : Type 1} → statement M
 draw-spec =
