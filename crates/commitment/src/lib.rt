@@ -39,7 +39,7 @@ pub fn put_opening(out: &mut [u8], at: usize, key: &[u8], x: u32) -> usize
     requires { ⌜ (length (now key) ≡ 32) × (at + 36 ≤ length (now out)) ⌝ }
     ensures { λ r. ⌜ Went (before out) at (opening (before key) x) (after out) r ⌝ }
 {
-    let next = wire::copy(out, at, key);
+    let next = wire::copy_key(out, at, key);
     wire::put4(out, next, x)
 }
 

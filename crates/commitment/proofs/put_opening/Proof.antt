@@ -7,7 +7,7 @@ use Rattle.commitment.proofs.put_opening.Tie as tie
 
 returns : tie.Need-returns
 unfolding opening
-returns c = go-on (c .before .before .before .before .before .before .copy .ensures) (c .before .before .put4 .ensures)
+returns c = go-on (c .before .before .before .before .before .before .copy-key .ensures) (c .before .before .put4 .ensures)
 
 pub put-opening-spec : {M : Type 1} → statement M
 put-opening-spec = tie.close (tie.spec (λ c κs. search needs) (λ c κs. search needs) (λ c. search needs) returns)
