@@ -1,4 +1,4 @@
-//! The must-fail edits of the crates, read after `rt ci` or `rt must-fail`: every edit is refused
+//! The must-fail edits of the crates, read after `edited/try` or `rt must-fail`: every edit is refused
 //! where it was made, and every public function guards at least two. Run from the root.
 //!
 //! - `edits translate FILE` writes the crates' code in Rust with the edits beside it, and starts
