@@ -175,6 +175,8 @@ fn the_prover_says_what_is_listed() {
         kinds("/r/proofs/f/Proof.antt:1:1: error: `f`: a level is too high\n"),
         [Kind::Unknown]
     );
+    let more = "`f`: this λ has 2 binders, but its type has room for only 1: at `κs` the type is";
+    assert_eq!(kinds(&format!("/r/proofs/f/Proof.antt:1:1: error: {more}\n")), [Kind::OtherNeed]);
 }
 
 #[test]

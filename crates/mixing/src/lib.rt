@@ -87,7 +87,7 @@ fn ballot_share(p: Parameters, votes: &[u32], numbers: &[u32], k: usize, j: usiz
     )
 }
 
-// Row k's offset in column c of list l at place i, of rows one and two, which are given. Row three's is asked for by nobody here.
+// Row k's offset in column c of list l at place i, of rows one and two, which are given. No entry needs row three's.
 fn offset(p: Parameters, numbers: &[u32], l: usize, c: usize, k: usize, i: usize) -> u32
     requires { ⌜ Numbers p (now numbers) × (InList p l × ((c < 3) × ((k < 2) × (i < p .ballots)))) ⌝ }
     ensures { λ r.
@@ -110,7 +110,8 @@ fn mixed(
     k: usize,
     i: usize,
 ) -> u32
-    requires { ⌜ Votes p (now votes) × (Numbers p (now numbers) × (Places p (now permutations) × (InList p l × ((k < 2) × (i < p .ballots))))) ⌝ }
+    requires { ⌜ Votes p (now votes) × (Numbers p (now numbers) × (Places p (now permutations)
+        × (InList p l × ((k < 2) × (i < p .ballots))))) ⌝ }
     ensures { λ r.
         let s = inputsOf (trail p (before votes) (before numbers) (before permutations)) in
         ⌜ (r ≡ servers.mixed s l k i) × (r < p .modulus) ⌝ }

@@ -35,10 +35,11 @@ pub enum Verdict {
 
 /// The words by which an error is known, the first that fit. Every kind was seen in reports of this
 /// kit; whatever another one says is unknown until it is read and listed here.
-const WORDS: [(&str, Kind); 17] = [
+const WORDS: [(&str, Kind); 18] = [
     ("was not admitted (", Kind::Consequence),
     ("that can be named from here", Kind::Consequence),
     ("has no field", Kind::Consequence),
+    ("binders, but its type has room for only", Kind::OtherNeed),
     ("does not follow from what it read", Kind::Unproved),
     ("`omega` found no proof, and no values at which the goal fails", Kind::Unproved),
     ("`omega` stopped at a bound of its own", Kind::Unproved),
