@@ -130,6 +130,16 @@ first-stop f (suc n) i l z ne = go (eq-or-lt-of-le (le-of-suc-le-suc l)) (λ k. 
     go (inl e) ih = ap f e ∙ sym (then-go (first f n) (f n) (rw e at z))
     go (inr k) ih = ih k ∙ sym (then-stop (first f n) (f n) (λ q. ne (ih k ∙ q)))
 
+-- what is found among the first k is the first of more
+pub first-prefix : (f : ℕ → Found) (k n : ℕ) → k ≤ n → first f k ≢ Nothing → first f n ≡ first f k
+unfolding first
+first-prefix f k zero l ne = let e : k ≡ 0 = omega arith in ap (first f) (sym e)
+first-prefix f k (suc n) l ne = go (eq-or-lt-of-le l) (λ m. first-prefix f k n (le-of-suc-le-suc m) ne)
+  where
+    go : (k ≡ suc n) ⊎ (k < suc n) → (k < suc n → first f n ≡ first f k) → first f n then f n ≡ first f k
+    go (inl e) ih = ap (first f) (sym e)
+    go (inr m) ih = then-stop (first f n) (f n) (λ z. ne (sym (ih m) ∙ z)) ∙ ih m
+
 -- what a search that was asked for has found
 pub passed-as : {g f h : Found} → g ≡ f → g ≡ h → f ≡ h
 passed-as e w = sym e ∙ w

@@ -17,6 +17,7 @@ pub mod Digits
 pub mod Widths
 pub mod Operands
 pub mod Locating
+pub mod Lookup
 pub mod Reading
 pub mod Standing
 pub mod Tablets

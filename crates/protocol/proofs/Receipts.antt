@@ -60,7 +60,7 @@ number-done (suc k) v w e = cc
 -- ---- the search among the ballots
 
 -- what rises step by step rises
-rising : (f : ℕ → ℕ) (n : ℕ) → ((j : ℕ) → suc j < n → f j < f (suc j)) → (i j : ℕ) → i < j → j < n → f i < f j
+pub rising : (f : ℕ → ℕ) (n : ℕ) → ((j : ℕ) → suc j < n → f j < f (suc j)) → (i j : ℕ) → i < j → j < n → f i < f j
 rising f n h i zero l k = absurd (not-suc-le-zero l)
 rising f n h i (suc j) l k = go (eq-or-lt-of-le (le-of-suc-le-suc l)) (λ m. rising f n h i j m (omega arith))
   where
@@ -84,7 +84,7 @@ module _ (p : Parameters) (r printed : List ℕ) where
           let t : equal (idOf p r n) (number printed 0 4) ≡ false = not-equal (omega arith) in
           rw t (ih k)
 
-  among-none : (n : ℕ) → ((j : ℕ) → j < n → idOf p r j ≢ number printed 0 4) → receiptAmong p r printed n ≡ notPosted
+  pub among-none : (n : ℕ) → ((j : ℕ) → j < n → idOf p r j ≢ number printed 0 4) → receiptAmong p r printed n ≡ notPosted
   unfolding receiptAmong
   among-none zero h = refl
   among-none (suc n) h =
@@ -143,7 +143,7 @@ module _ (r printed : List ℕ) where
         rule-kept 18 (equal (length printed) 32) (numberOf faults) refl .1 (equal-iff (length printed) 32 .1 (c .long), ap numberOf h),
   )
 
-  ids-rise : Checkable r printed → (j : ℕ) → suc j < parametersOf r .ballots → idOf (parametersOf r) r j < idOf (parametersOf r) r (suc j)
+  pub ids-rise : Checkable r printed → (j : ℕ) → suc j < parametersOf r .ballots → idOf (parametersOf r) r j < idOf (parametersOf r) r (suc j)
   ids-rise c j l =
       let p = parametersOf r in
       ballot-tests false p r (suc j) .0 (fault-iff false p r (Ballot (suc j)) .0 (c .ballots (suc j) l) .1 .1) j refl

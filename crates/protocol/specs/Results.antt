@@ -1,10 +1,10 @@
 -- Document 01, "Tablet" and "The program's page": the receipt check, the announced votes, the tally, the page; and the draw of a
--- mask by itself.
+-- mask by itself. Document 02, item 1: the receipt lookup.
 use mathlib.Core.Bool.{true, false}
 use mathlib.Core.List.{List, [], _∷_, _++_, map}
 use Prim.Native.Nat.{ℕ, zero, suc, _+_, _-_}
 use lib.ListN.{length, drop}
-use Rattle.laws.specs.Tests.{equal, differ, atMost, _and_, _or_, every, same, pick, choose}
+use Rattle.laws.specs.Tests.{equal, below, differ, atMost, _and_, _or_, every, same, pick, choose}
 use Rattle.laws.specs.Faults.{rule, kept, _then_, numberOf}
 use Rattle.laws.specs.Bytes.{number}
 use Rattle.laws.specs.Sums.{times}
@@ -42,6 +42,29 @@ receiptRefusal r printed =
 -- "reads the parameters and all ballots and answers"
 unfoldable pub receiptChecked : List ℕ → List ℕ → Answer
 receiptChecked r printed = let p = parametersOf r in answerOf (receiptRefusal r printed) (receiptAmong p r printed (p .ballots))
+
+-- ---- the lookup: document 02, item 1
+
+-- "shall stop at the first ballot whose id is the one sought or larger": how many of the first n ballots are read, that one being the
+-- last of them. Ballot j is read where every ballot before it has a smaller id.
+unfoldable pub ballotsRead : Parameters → List ℕ → List ℕ → ℕ → ℕ
+ballotsRead p r printed zero = 0
+ballotsRead p r printed (suc j) =
+    pick (every (λ i. below (idOf p r i) (number printed 0 4)) j) (suc j) (ballotsRead p r printed j)
+
+-- "Up to that ballot's last byte it refuses as the check does"
+unfoldable pub lookupRefusal : List ℕ → List ℕ → ℕ
+lookupRefusal r printed =
+    let p = parametersOf r in
+    let read = ballotsRead p r printed (p .ballots) in
+    rule 18 (equal (length printed) 32) (numberOf (found false p r First then ballotFaults false p r read))
+
+-- "it gives the same answer as the reading of all ballots ..; a fault behind is left to the judge"
+unfoldable pub lookedUp : List ℕ → List ℕ → Answer
+lookedUp r printed =
+    let p = parametersOf r in
+    let read = ballotsRead p r printed (p .ballots) in
+    answerOf (lookupRefusal r printed) (receiptAmong p r printed read)
 
 -- ---- the announced votes
 
