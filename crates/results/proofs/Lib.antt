@@ -4,3 +4,4 @@ pub mod Announcing
 pub mod Distinct
 pub mod Tallied
 pub mod Lines
+mod Looking

@@ -7,7 +7,7 @@ use native.Mathlib.Omega.{arith}
 use lib.ListN.{length}
 use Rattle.laws.specs.declared.Found.{Found}
 use Rattle.laws.specs.declared.Found.the-variants.{Nothing}
-use Rattle.laws.specs.Faults.{_then_, rules}
+use Rattle.laws.specs.Faults.{_then_, rules, located-nothing}
 use Rattle.protocol.specs.declared.Parameters.{Parameters}
 use Rattle.protocol.specs.declared.Due.{Due}
 use Rattle.protocol.specs.declared.Due.the-variants.{First, Ballot, Vote}
@@ -21,7 +21,7 @@ use Rattle.protocol.proofs.Announced.{announced-length, announced-item}
 use Rattle.protocol.proofs.Faultless.{Faultless, faultless-iff}
 use Rattle.protocol.proofs.Tested.{fault-iff, first-tests, vote-tests}
 use Rattle.layout.specs.Bounds.{Few}
-use Rattle.results.specs.Ready.{BallotsReady, VotesReady}
+use Rattle.results.specs.Ready.{BallotsReady, BallotReady, LookupReady, VotesReady}
 
 module _ (drawn : Bool) (p : Parameters) (r : List ℕ) where
   -- a command that stands ends inside of the record
@@ -65,6 +65,29 @@ module _ (r : List ℕ) where
       let j = q .ballots - 1 in
       let w : atBallot q j + 197 ≤ length r = stands-whole false q r (Ballot j) (h .ballots j (omega (arith, k .ballots-low))) in
       rw s (record { few = k .few .ballots; reaches = omega (arith, k .ballots-low); long = l })
+
+-- ---- the ballots up to one
+
+module _ (r : List ℕ) where
+  first-stands : found false (parametersOf r) r First ≡ Nothing → fault (parametersOf r) r false First ≡ 0
+  unfolding found
+  first-stands e = located-nothing _ _ .0 e
+
+  pub first-whole : found false (parametersOf r) r First ≡ Nothing → firstWidth (parametersOf r) ≤ length r
+  first-whole e = stands-whole false (parametersOf r) r First (first-stands e)
+
+  pub lookup-ready : {p : Parameters} {printed : List ℕ} → found false (parametersOf r) r First ≡ Nothing → p ≡ parametersOf r → length printed ≡ 32 → LookupReady p printed
+  lookup-ready e s l = rw s (record { few = limits false r (first-stands e) .few .ballots; long = l })
+
+pub ballot-ready : (p : Parameters) (r printed : List ℕ) (j : ℕ) → j ≤ mostBallots → found false p r (Ballot j) ≡ Nothing → length printed ≡ 32 → BallotReady p r printed j
+unfolding found atBallot
+ballot-ready p r printed j few e l =
+    let w : atBallot p j + 197 ≤ length r = stands-whole false p r (Ballot j) (located-nothing _ _ .0 e) in
+    record { few = few; reaches = omega arith; long = l }
+
+pub each-ready : {p : Parameters} {r printed : List ℕ} → BallotsReady p r printed → (j : ℕ) → suc j ≤ p .ballots → BallotReady p r printed j
+unfolding atBallot
+each-ready b j l = record { few = omega (arith, b .few); reaches = omega (arith, b .reaches); long = b .long }
 
 -- ---- an accepted record, judged plainly or as drawn
 

@@ -24,7 +24,7 @@ use protocol::Verdict;
 // ---- the first command
 
 // The fault of the first command. No parameters are known yet, and it needs none.
-fn first_command_fault(bytes: &[u8], drawn: bool) -> Found
+pub fn first_command_fault(bytes: &[u8], drawn: bool) -> Found
     ensures { λ r. ⌜ r ≡ found drawn (parametersOf (before bytes)) (before bytes) Due.First ⌝ }
 {
     let none = Parameters {

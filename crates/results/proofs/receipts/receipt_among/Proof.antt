@@ -11,6 +11,7 @@ use Rattle.protocol.specs.declared.Parameters.{Parameters}
 use Rattle.protocol.specs.Answers.{Answer, done, receiptAnswer}
 use Rattle.protocol.specs.Record.{idOf}
 use Rattle.protocol.specs.Results.{receiptAt, receiptAmong}
+use Rattle.results.proofs.Reaching.{each-ready}
 use Rattle.results.proofs.receipts.receipt_among.Statement.{statement}
 use Rattle.results.proofs.receipts.receipt_among.Tie as tie
 
@@ -25,7 +26,7 @@ unfolding receiptAmong
 loop-holds c = (omega arith, refl)
 
 receipt-with-requires : tie.Need-receipt-with-requires Inv-loop μ-loop
-receipt-with-requires c κs = (c .before .before .before .before .pre, omega arith)
+receipt-with-requires c κs = each-ready (c .before .before .before .before .pre) (c .before .loop .j) (omega arith)
 
 -- one ballot more
 more : (p : Parameters) (r printed : List ℕ) (j : ℕ) {next given : Answer} → next ≡ pick (equal (idOf p r j) (number printed 0 4)) (done (receiptAt p r printed j)) given

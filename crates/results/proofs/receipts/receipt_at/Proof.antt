@@ -18,7 +18,7 @@ use Rattle.results.proofs.receipts.receipt_at.Tie as tie
 
 part-sha3-224-end : tie.Need-part-sha3-224-end
 unfolding atBallot
-part-sha3-224-end c = omega (arith, c .at-ballot .ensures .0, c .before .before .before .pre .0 .reaches)
+part-sha3-224-end c = omega (arith, c .at-ballot .ensures .0, c .before .before .before .pre .reaches)
 
 slice-aggregate-same-bytes : tie.Need-slice-aggregate-same-bytes
 slice-aggregate-same-bytes c = omega (arith, ap length (c .before .before .sha3-224 .ensures) ∙ sha3-224-length _)

@@ -12,7 +12,7 @@ use Rattle.results.proofs.receipts.receipt_with.Tie as tie
 
 read4-requires : tie.Need-read4-requires
 unfolding atBallot
-read4-requires c κs = omega (arith, c .at-ballot .ensures .0, c .before .before .before .pre .0 .reaches)
+read4-requires c κs = omega (arith, c .at-ballot .ensures .0, c .before .before .before .pre .reaches)
 
 id-read : (c : tie.After-read4) → (let s = c .before .before .before .before in c .read4 .result ≡ idOf (s .args .p) (s .args .bytes .now) (s .args .j))
 unfolding idOf
