@@ -69,7 +69,7 @@ enum paddockyear_number {
     PADDOCKYEAR_RULE_LENGTH = 18,
     PADDOCKYEAR_RULE_PERMUTATION = 19,
 
-    PADDOCKYEAR_POSTED_OTHERWISE = 101, /* both by the receipt check only; they are no rules, and no refusals */
+    PADDOCKYEAR_POSTED_OTHERWISE = 101, /* both by receipt check and lookup only; they are no rules, and no refusals */
     PADDOCKYEAR_NOT_POSTED = 102
 };
 
@@ -369,6 +369,11 @@ uint32_t paddockyear_first_fault(const uint8_t *bytes, size_t length, uint32_t d
  * Else 18 for the receipt's length, or 1, 2, 3, 5 of the record as in judging. It reads the parameters and all ballots, and nothing behind
  * them: a record that stops there is enough, and a record that is answered here need not be accepted. */
 uint32_t paddockyear_check_receipt(const uint8_t *bytes, size_t length, const uint8_t *printed, size_t printed_length);
+
+/* The same answers from the ballots up to the first whose id is the one sought or larger, for a screen at which many look receipts up.
+ * Where parameters and ballots are well formed it answers as paddockyear_check_receipt does. A fault up to that ballot's last byte is
+ * answered by the same number; what stands behind is not read, so that a fault there, or a record cut there, is left to the judge. */
+uint32_t paddockyear_look_up(const uint8_t *bytes, size_t length, const uint8_t *printed, size_t printed_length);
 
 /* The announced votes of an accepted record, one for each ballot, smallest first, into out of n elements; n is in the record's bytes 5 and
  * 6, most significant first. Answers 0; else the number of plain judging; else 18 for the length of out. */

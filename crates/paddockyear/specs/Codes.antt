@@ -16,7 +16,7 @@ unfoldable pub codeOf : Answer → ℕ
 codeOf (done values) = 0
 codeOf (refused k) = k
 
--- of the receipt check: 0 posted as printed, 101 posted otherwise, 102 not posted, else the refusal's number
+-- of receipt check and lookup: 0 posted as printed, 101 posted otherwise, 102 not posted, else the refusal's number
 unfoldable pub receiptCode : Answer → ℕ
 receiptCode (done []) = 0
 receiptCode (done (zero ∷ rest)) = 0

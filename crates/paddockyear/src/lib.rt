@@ -19,7 +19,7 @@ ghost use Rattle.protocol.specs.Servers.{firstPart, secondPart, maskFor, thirdP
 ghost use Rattle.protocol.specs.Judging.{firstFault};
 ghost use Rattle.protocol.specs.Election.{choiceOf};
 ghost use Rattle.election.specs.Holding.{lent, buffers, Held};
-ghost use Rattle.protocol.specs.Results.{receiptChecked, announcedVotes, announcedRefusal, distinctVotes, voteCounts, tallyRefusal, inFront, drawRefusal};
+ghost use Rattle.protocol.specs.Results.{receiptChecked, lookedUp, announcedVotes, announcedRefusal, distinctVotes, voteCounts, tallyRefusal, inFront, drawRefusal};
 ghost use Rattle.paddockyear.specs.Codes.{codeOf, receiptCode, placeIn, outcomeCode};
 use election::Outcome;
 use laws::Found;
@@ -513,6 +513,14 @@ pub extern "C" fn paddockyear_check_receipt(bytes: &[u8], printed: &[u8]) -> u32
     ensures { λ r. ⌜ r ≡ receiptCode (receiptChecked (before bytes) (before printed)) ⌝ }
 {
     receipt_code(results::receipts::check_receipt(bytes, printed))
+}
+
+// The same, from the ballots up to the first whose id is the one sought or larger.
+#[no_mangle]
+pub extern "C" fn paddockyear_look_up(bytes: &[u8], printed: &[u8]) -> u32
+    ensures { λ r. ⌜ r ≡ receiptCode (lookedUp (before bytes) (before printed)) ⌝ }
+{
+    receipt_code(results::receipts::look_up(bytes, printed))
 }
 
 fn receipt_code(answer: Receipt) -> u32
