@@ -255,18 +255,32 @@ static void find_faults(void) {
     report("places of faults, and records of length 0");
 }
 
-static void take_results(void) {
+/* The check reads all ballots, the lookup of id 1 the first alone. */
+static void ask_for_receipts(void) {
     uint8_t receipt[PADDOCKYEAR_RECEIPT_LENGTH] = {0};
-    size_t length = sizeof joined - 1;
-    uint32_t out[N], values[N] = {90, 91, 92};
-    uint64_t counts[N] = {80, 81, 82};
-    uint64_t pairs = 77;
+    size_t length = sizeof joined - 1, behind_first = 8 + PADDOCKYEAR_COMMAND_LENGTH;
     EXPECT(18, paddockyear_check_receipt(NONE, NONE));
     EXPECT(18, paddockyear_check_receipt(joined, length, NONE));
     EXPECT(1, paddockyear_check_receipt(NONE, LENT(receipt)));
     EXPECT(PADDOCKYEAR_NOT_POSTED, paddockyear_check_receipt(joined, length, LENT(receipt)));
+    EXPECT(18, paddockyear_look_up(NONE, NONE));
+    EXPECT(18, paddockyear_look_up(joined, length, NONE));
+    EXPECT(1, paddockyear_look_up(NONE, LENT(receipt)));
+    EXPECT(PADDOCKYEAR_NOT_POSTED, paddockyear_look_up(joined, length, LENT(receipt)));
     receipt[3] = 1;
     EXPECT(PADDOCKYEAR_POSTED_OTHERWISE, paddockyear_check_receipt(joined, length, LENT(receipt)));
+    EXPECT(PADDOCKYEAR_POSTED_OTHERWISE, paddockyear_look_up(joined, length, LENT(receipt)));
+    EXPECT(1, paddockyear_check_receipt(joined, behind_first, LENT(receipt)));
+    EXPECT(PADDOCKYEAR_POSTED_OTHERWISE, paddockyear_look_up(joined, behind_first, LENT(receipt)));
+    EXPECT(1, paddockyear_look_up(joined, behind_first - 1, LENT(receipt)));
+    report("receipt check and receipt lookup");
+}
+
+static void take_results(void) {
+    size_t length = sizeof joined - 1;
+    uint32_t out[N], values[N] = {90, 91, 92};
+    uint64_t counts[N] = {80, 81, 82};
+    uint64_t pairs = 77;
     EXPECT(1, paddockyear_announced_votes(NONE, NONE));
     EXPECT(18, paddockyear_announced_votes(joined, length, NONE));
     EXPECT(0, paddockyear_announced_votes(joined, length, LENT(out)));
@@ -284,7 +298,7 @@ static void take_results(void) {
     EXPECT(2, (uint32_t)counts[1]);
     EXPECT(92, values[2]);
     EXPECT(82, (uint32_t)counts[2]);
-    report("receipt check, announced votes and tally");
+    report("announced votes and tally");
 }
 
 int main(void) {
@@ -299,6 +313,7 @@ int main(void) {
     write_parts();
     lend_one_slice_twice();
     find_faults();
+    ask_for_receipts();
     take_results();
     return fflush(stdout) == 0 && !ferror(stdout) ? 0 : 1;
 }

@@ -103,9 +103,11 @@ static void judge(void) {
 static void check_receipt(void) {
     uint8_t *receipt = receipts[1];
     expect(0, paddockyear_check_receipt(LENT(joined), receipt, RECEIPT), "check_receipt");
+    expect(0, paddockyear_look_up(LENT(joined), receipt, RECEIPT), "look_up");
     printf("receipt of ballot %" PRIu32 ": posted as printed\n", number_at(receipt));
     receipt[RECEIPT - 1] ^= 1;
     expect(101, paddockyear_check_receipt(LENT(joined), receipt, RECEIPT), "check_receipt");
+    expect(101, paddockyear_look_up(LENT(joined), receipt, RECEIPT), "look_up");
     printf("with one bit changed: posted otherwise\n");
 }
 

@@ -53,6 +53,7 @@ static void judge_plainly(void) { answer = paddockyear_judge_plainly(LENT(joined
 static void judge_as_drawn(void) { answer = paddockyear_judge_as_drawn(LENT(joined)); }
 static void first_fault(void) { answer = paddockyear_first_fault(LENT(joined), 1, &place); }
 static void check_receipt(void) { answer = paddockyear_check_receipt(joined, sizeof joined, LENT(receipt)) == 101 ? 0 : 1; }
+static void look_up(void) { answer = paddockyear_look_up(joined, sizeof joined, LENT(receipt)) == 101 ? 0 : 1; }
 static void announced_votes(void) { answer = paddockyear_announced_votes(LENT(joined), LENT(out)); }
 static void tally(void) { answer = paddockyear_tally(LENT(out), LENT(values), LENT(counts), &pairs); }
 
@@ -86,6 +87,7 @@ static const struct row rows[] = {
     ROW(judge_as_drawn, PADDOCKYEAR_STACK_JUDGING),
     ROW(first_fault, PADDOCKYEAR_STACK_JUDGING),
     ROW(check_receipt, PADDOCKYEAR_STACK),
+    ROW(look_up, PADDOCKYEAR_STACK),
     ROW(announced_votes, PADDOCKYEAR_STACK_JUDGING),
     ROW(tally, PADDOCKYEAR_STACK),
 };

@@ -9,7 +9,7 @@ pub mod reference {
     pub use crate::reference::drawing::mask_entry;
     pub use crate::reference::election::election;
     pub use crate::reference::judge::judge;
-    pub use crate::reference::receipt::check_receipt;
+    pub use crate::reference::receipt::{check_receipt, look_up};
     pub use crate::reference::results::{announced_votes, tally};
     pub use crate::reference::sha3::{keccak_f, sha3_224, sha3_256};
     pub use crate::reference::tablet::tablet;

@@ -192,8 +192,19 @@ pub enum Found {
     NotPosted,
 }
 
+/// Reads all ballots.
 pub fn check_receipt(record: &[u8], receipt: &Receipt) -> Result<Found, Refusal> {
-    match ffi::results::check_receipt(record, &receipt.0) {
+    found(ffi::results::check_receipt(record, &receipt.0))
+}
+
+/// Stops at the first ballot whose id is the receipt's or larger; what stands behind it is not
+/// looked at.
+pub fn look_up(record: &[u8], receipt: &Receipt) -> Result<Found, Refusal> {
+    found(ffi::results::look_up(record, &receipt.0))
+}
+
+fn found(answer: u32) -> Result<Found, Refusal> {
+    match answer {
         ffi::results::AS_PRINTED => Ok(Found::AsPrinted),
         ffi::results::POSTED_OTHERWISE => Ok(Found::Otherwise),
         ffi::results::NOT_POSTED => Ok(Found::NotPosted),

@@ -1,5 +1,7 @@
-//! The product's receipt check, announced votes and tally beside the reference's.
+//! The product's receipt check, receipt lookup, announced votes and tally beside the reference's.
 
+#[path = "suites/lookup.rs"]
+mod lookup;
 #[path = "suites/results.rs"]
 mod suite;
 

@@ -71,6 +71,7 @@ fn refused_by_writers(random: &mut Random, parameters: Parameters) {
 fn empty_record() {
     refused(&[], 1, 0);
     assert_eq!(check_receipt(&[], &[0; 32]), Err(1));
+    assert_eq!(look_up(&[], &[0; 32]), Err(1));
 }
 
 #[test]
@@ -82,9 +83,11 @@ fn most_ballots() {
     accepted(&record, &inputs.votes);
     let printed = receipt(inputs.ids[1023], &record[8 + 197 * 1023..][..197]);
     assert_eq!(check_receipt(&record, &printed), Ok(Posted::AsPrinted));
+    assert_eq!(look_up(&record, &printed), Ok(Posted::AsPrinted));
     record[5..7].copy_from_slice(&1025u16.to_be_bytes());
     refused(&record, 3, 0);
     assert_eq!(check_receipt(&record, &printed), Err(3));
+    assert_eq!(look_up(&record, &printed), Err(3));
     refused_by_writers(random, of(100, 1025, 1));
 }
 
@@ -97,6 +100,7 @@ fn smallest_modulus() {
     record[1..5].copy_from_slice(&1u32.to_be_bytes());
     refused(&record, 3, 0);
     assert_eq!(check_receipt(&record, &[0; 32]), Err(3));
+    assert_eq!(look_up(&record, &[0; 32]), Err(3));
     refused_by_writers(random, of(1, 2, 1));
     let split = SplitVote { vote: 0, shares: [0; 2], firsts: [0; 3] };
     let (mut command, mut printed) = ([7; 197], [7; 32]);

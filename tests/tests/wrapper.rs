@@ -58,15 +58,19 @@ fn from_the_tablets_to_the_tally() {
 
     let commands: Vec<u8> = cast.iter().flat_map(|(command, _)| command.0).collect();
     assert_eq!(parts[0][8..8 + 197 * 6], commands);
-    for (_, receipt) in &cast {
+    for (j, (_, receipt)) in cast.iter().enumerate() {
         assert_eq!(check_receipt(&record, receipt), Ok(Found::AsPrinted));
         assert_eq!(check_receipt(&parts[0], receipt), Ok(Found::AsPrinted));
+        assert_eq!(look_up(&record, receipt), Ok(Found::AsPrinted));
+        assert_eq!(look_up(&parts[0][..8 + 197 * (j + 1)], receipt), Ok(Found::AsPrinted));
     }
     let mut other = cast[2].1;
     other.0[31] ^= 1;
     assert_eq!(check_receipt(&record, &other), Ok(Found::Otherwise));
+    assert_eq!(look_up(&record, &other), Ok(Found::Otherwise));
     other.0[3] += 1;
     assert_eq!(check_receipt(&record, &other), Ok(Found::NotPosted));
+    assert_eq!(look_up(&record, &other), Ok(Found::NotPosted));
 
     assert_eq!((judge(&record, false), judge(&record, true)), (Ok(()), Ok(())));
     assert_eq!(announced_votes(&record), Ok(vec![0, 2, 5, 5, 5, 999]));
@@ -136,6 +140,7 @@ fn refused_records() {
     assert_eq!((tally(&[]), judge(&[], true)), (Err(Refusal(1)), Err(Refusal(1))));
     let receipt = Receipt(record[..32].try_into().unwrap());
     assert_eq!(check_receipt(&record[..1000], &receipt), Err(Refusal(1)));
+    assert_eq!(look_up(&record[..1000], &receipt), Err(Refusal(1)));
     record[end - 1] ^= 1;
     assert_eq!(tally(&record), Err(Refusal(13)));
 }

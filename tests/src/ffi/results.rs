@@ -1,8 +1,14 @@
-//! The receipt check, the announced votes and the tally.
+//! The receipt check, the receipt lookup, the announced votes and the tally.
 
 mod faces {
     extern "C" {
         pub fn paddockyear_check_receipt(
+            bytes: *const u8,
+            len: usize,
+            printed: *const u8,
+            printed_len: usize,
+        ) -> u32;
+        pub fn paddockyear_look_up(
             bytes: *const u8,
             len: usize,
             printed: *const u8,
@@ -40,6 +46,14 @@ pub fn check_receipt(record: &[u8], printed: &[u8]) -> u32 {
             printed.as_ptr(),
             printed.len(),
         )
+    }
+}
+
+/// One of the three answers, or the refusal's number.
+pub fn look_up(record: &[u8], printed: &[u8]) -> u32 {
+    // SAFETY: the face reads the two slices.
+    unsafe {
+        faces::paddockyear_look_up(record.as_ptr(), record.len(), printed.as_ptr(), printed.len())
     }
 }
 

@@ -105,15 +105,20 @@ pub struct PostedBallot {
     pub commitments: [Commitment; 6],
 }
 
+/// One command 02; `before` is the id before it, if there is one.
+pub fn ballot(reader: &mut Reader, before: Option<u32>) -> Result<PostedBallot, Fault> {
+    let mut command = reader.command(0x02, 196)?;
+    let ballot = PostedBallot { id: command.number(4), commitments: command.commitments() };
+    command.demand(before.is_none_or(|before| before < ballot.id), refusal::ID)?;
+    Ok(ballot)
+}
+
 /// The commands 02.
 pub fn ballots(reader: &mut Reader, parameters: &Parameters) -> Result<Vec<PostedBallot>, Fault> {
     let mut ballots: Vec<PostedBallot> = Vec::new();
     for _ in 0..parameters.n {
-        let mut command = reader.command(0x02, 196)?;
-        let ballot = PostedBallot { id: command.number(4), commitments: command.commitments() };
-        let rises = ballots.last().is_none_or(|before| before.id < ballot.id);
-        command.demand(rises, refusal::ID)?;
-        ballots.push(ballot);
+        let before = ballots.last().map(|before| before.id);
+        ballots.push(ballot(reader, before)?);
     }
     Ok(ballots)
 }

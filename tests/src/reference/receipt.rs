@@ -1,6 +1,6 @@
-//! The receipt check.
+//! The receipt check, and the lookup that stops early.
 
-use super::judge::{ballots, parameters, Reader};
+use super::judge::{ballot, ballots, parameters, Fault, Reader};
 use super::sha3::sha3_224;
 use super::terms::refusal;
 
@@ -14,19 +14,55 @@ pub enum Posted {
 /// Reads the parameters and all ballots, and nothing behind them; 18, then 1 to 5.
 pub fn check_receipt(record: &[u8], receipt: &[u8]) -> Result<Posted, u8> {
     let receipt: &[u8; 32] = receipt.try_into().map_err(|_| refusal::LENGTH)?;
-    let ids = posted_ids(record)?;
-    Ok(match ids.iter().position(|id| id.to_be_bytes() == receipt[..4]) {
+    let ids = posted_ids(record).map_err(|fault| fault.number)?;
+    Ok(match ids.iter().position(|&id| id == id_of(receipt)) {
         None => Posted::Not,
-        Some(ballot) if sha3_224(command(record, ballot)) == receipt[4..] => Posted::AsPrinted,
-        Some(_) => Posted::Otherwise,
+        Some(ballot) => compared(command(record, ballot), receipt),
     })
 }
 
-fn posted_ids(record: &[u8]) -> Result<Vec<u32>, u8> {
+/// Reads the parameters and ballot after ballot, to the first whose id is the one sought or larger,
+/// and nothing behind it; 18, then 1 to 5.
+pub fn look_up(record: &[u8], receipt: &[u8]) -> Result<Posted, u8> {
+    let receipt: &[u8; 32] = receipt.try_into().map_err(|_| refusal::LENGTH)?;
+    let sought = id_of(receipt);
+    Ok(match stopping_ballot(record, sought).map_err(|fault| fault.number)? {
+        Some((ballot, id)) if id == sought => compared(command(record, ballot), receipt),
+        Some(_) | None => Posted::Not,
+    })
+}
+
+fn posted_ids(record: &[u8]) -> Result<Vec<u32>, Fault> {
     let mut reader = Reader::new(record);
-    let parameters = parameters(&mut reader).map_err(|fault| fault.number)?;
-    let ballots = ballots(&mut reader, &parameters).map_err(|fault| fault.number)?;
-    Ok(ballots.iter().map(|ballot| ballot.id).collect())
+    let parameters = parameters(&mut reader)?;
+    Ok(ballots(&mut reader, &parameters)?.iter().map(|ballot| ballot.id).collect())
+}
+
+/// The first ballot whose id is the one sought or larger, and that id. A ballot's own rules come
+/// before the look at its id.
+fn stopping_ballot(record: &[u8], sought: u32) -> Result<Option<(usize, u32)>, Fault> {
+    let mut reader = Reader::new(record);
+    let parameters = parameters(&mut reader)?;
+    let mut before = None;
+    for j in 0..parameters.ballots() {
+        let id = ballot(&mut reader, before)?.id;
+        if id >= sought {
+            return Ok(Some((j, id)));
+        }
+        before = Some(id);
+    }
+    Ok(None)
+}
+
+fn id_of(receipt: &[u8; 32]) -> u32 {
+    u32::from_be_bytes(receipt[..4].try_into().unwrap())
+}
+
+fn compared(command: &[u8], receipt: &[u8; 32]) -> Posted {
+    match sha3_224(command) == receipt[4..] {
+        true => Posted::AsPrinted,
+        false => Posted::Otherwise,
+    }
 }
 
 fn command(record: &[u8], ballot: usize) -> &[u8] {

@@ -14,7 +14,7 @@ pub use election::election;
 pub use hash::{keccak_f, sha3_224, sha3_256};
 pub use judge::judge;
 pub use parts::{mask_entry, part_one, part_three, part_two};
-pub use results::{announced_votes, check_receipt, tally};
+pub use results::{announced_votes, check_receipt, look_up, tally};
 pub use tablet::tablet;
 
 use crate::lent::{number_of, Lent};

@@ -7,6 +7,8 @@ mod conventions;
 mod election;
 #[path = "../suites/judge/mod.rs"]
 mod judge;
+#[path = "../suites/lookup.rs"]
+mod lookup;
 #[path = "../suites/parts/mod.rs"]
 mod parts;
 #[path = "../suites/results.rs"]

@@ -1,4 +1,4 @@
-//! The receipt check, the announced votes and the tally.
+//! The receipt check, the receipt lookup, the announced votes and the tally.
 
 use super::compare;
 use crate::ffi::results as product;
@@ -8,14 +8,24 @@ use crate::reference::results as reference;
 
 pub fn check_receipt(record: &[u8], printed: &[u8]) -> Result<Posted, u8> {
     let due = receipt::check_receipt(record, printed);
-    let number = match due {
+    assert_eq!(product::check_receipt(record, printed), code_of(due));
+    due
+}
+
+pub fn look_up(record: &[u8], printed: &[u8]) -> Result<Posted, u8> {
+    let due = receipt::look_up(record, printed);
+    assert_eq!(product::look_up(record, printed), code_of(due));
+    due
+}
+
+/// The answer as the faces have it.
+fn code_of(answer: Result<Posted, u8>) -> u32 {
+    match answer {
         Ok(Posted::AsPrinted) => product::AS_PRINTED,
         Ok(Posted::Otherwise) => product::POSTED_OTHERWISE,
         Ok(Posted::Not) => product::NOT_POSTED,
         Err(number) => u32::from(number),
-    };
-    assert_eq!(product::check_receipt(record, printed), number);
-    due
+    }
 }
 
 pub fn announced_votes(record: &[u8], out: &mut [u32]) -> Result<(), u8> {
