@@ -1,5 +1,6 @@
 /* Times of the product's receipt lookup, for the first, the middle and the last id of a board, beside
- * those of its receipt check, which reads all ballots: their ratios, all from one run. */
+ * those of its receipt check, which reads all ballots: their ratios, all from one run. Both hash the
+ * one ballot that has the id; the second ratio is of what they take beside that hash. */
 
 #include "paddockyear.h"
 #include "support.h"
@@ -45,16 +46,23 @@ static void check(void) {
         demand(paddockyear_check_receipt(board, sizeof board, receipt, sizeof receipt) == 0, "the check answers otherwise");
 }
 
+static void hash(void) {
+    uint8_t digest[28];
+    for (int i = 0; i < CALLS; i++) paddockyear_sha3_224(board + FIRST, COMMAND, digest);
+}
+
 /* The best of each, taken in turn. */
 static void compare(const char *which, uint32_t j, const char *aim) {
-    double looking = INFINITY, checking = INFINITY;
+    double looking = INFINITY, checking = INFINITY, hashing = INFINITY;
     take_receipt(j);
     for (int i = 0; i < REPETITIONS; i++) {
         looking = smaller(looking, time_once(look_up) / CALLS);
         checking = smaller(checking, time_once(check) / CALLS);
+        hashing = smaller(hashing, time_once(hash) / CALLS);
     }
-    printf("Lookup of the %-6s id     ours %9.3f us   check   %9.3f us   ratio %.4f%s\n", which, 1e6 * looking, 1e6 * checking,
-           looking / checking, aim);
+    printf("Lookup of the %-6s id    ours %9.3f us   check   %9.3f us   ratio %.3f", which, 1e6 * looking, 1e6 * checking,
+           looking / checking);
+    printf(", beside the hash (%.3f us) %.3f%s\n", 1e6 * hashing, (looking - hashing) / (checking - hashing), aim);
 }
 
 int main(void) {
