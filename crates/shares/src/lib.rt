@@ -5,8 +5,7 @@ ghost use Rattle.protocol.specs.Terms.{item};
 ghost use Rattle.protocol.specs.Tablet as tablet;
 ghost use Rattle.protocol.specs.Tablet.{slot};
 
-// Of three numbers that sum to `whole`, the first two given: number k. So a vote is shared, and row three's offset makes 0 with those of
-// rows one and two.
+// Of three numbers that sum to `whole`, the first two given: number k. So a vote is shared.
 pub fn share(modulus: u32, whole: u32, x: u32, y: u32, k: usize) -> u32
     requires { ⌜ (whole < modulus) × ((x < modulus) × (y < modulus)) ⌝ }
     ensures { λ r. ⌜ (r ≡ tablet.share modulus whole x y k) × (r < modulus) ⌝ }
