@@ -214,7 +214,7 @@ pub fn part_one(
         ⌜ r ≡ partOneRefusal s «out_len» ⌝ }
 {
     if !limits::in_limits(p) {
-        return 3;
+        return 3; // before any length is worked out from them
     }
     if out_len != layout::at_first_dice(p) {
         return 18;
