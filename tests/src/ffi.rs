@@ -7,4 +7,5 @@ pub mod hash;
 pub mod judge;
 pub mod parts;
 pub mod results;
+pub mod runoff;
 pub mod tablet;

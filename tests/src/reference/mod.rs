@@ -1,4 +1,4 @@
-//! Document 01 in plain Rust: clarity before speed.
+//! Document 01, and the items of document 02 that are built, in plain Rust: clarity before speed.
 
 pub mod columns;
 pub mod drawing;
@@ -7,6 +7,7 @@ pub mod judge;
 pub mod page;
 pub mod receipt;
 pub mod results;
+pub mod runoff;
 pub mod sha3;
 pub mod tablet;
 pub mod terms;

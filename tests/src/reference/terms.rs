@@ -23,6 +23,7 @@ pub mod refusal {
     pub const BEHIND: u8 = 17;
     pub const LENGTH: u8 = 18;
     pub const PERMUTATION: u8 = 19;
+    pub const CANDIDATES: u8 = 20;
 }
 
 pub const MAX_BALLOTS: u32 = 1024;

@@ -7,6 +7,7 @@ mod hash;
 mod judge;
 mod parts;
 mod results;
+mod runoff;
 mod tablet;
 
 pub use columns::{offsets_server, row_server, split_server};
@@ -15,6 +16,7 @@ pub use hash::{keccak_f, sha3_224, sha3_256};
 pub use judge::judge;
 pub use parts::{mask_entry, part_one, part_three, part_two};
 pub use results::{announced_votes, check_receipt, look_up, tally};
+pub use runoff::runoff;
 pub use tablet::tablet;
 
 use crate::lent::{number_of, Lent};

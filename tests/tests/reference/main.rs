@@ -13,6 +13,8 @@ mod lookup;
 mod parts;
 #[path = "../suites/results.rs"]
 mod results;
+#[path = "../suites/runoff.rs"]
+mod runoff;
 mod samples;
 #[path = "../suites/tablet.rs"]
 mod tablet;
