@@ -7,25 +7,33 @@ use crate::random::Random;
 use crate::reference::judge::Judging;
 use crate::reference::page::LONGEST;
 use crate::reference::terms::Parameters;
+use crate::reference::writer::Inputs;
 
 /// The rules of which a refused board is written.
 const RULES: [u8; 9] = [1, 5, 8, 9, 12, 13, 14, 16, 17];
+
+/// Ranked votes of 23 ballots for four candidates: 4 and 3 tie for last, a vote for 4 alone is
+/// exhausted, 2 wins in the third round; two are blank, and 302, 122 and 51 spoiled.
+pub const RANKED: [u32; 23] = [
+    1234, 2, 302, 41, 12, 2143, 0, 31, 1, 24, 423, 122, 13, 21, 342, 1342, 0, 2431, 4, 123, 51, 32,
+    213,
+];
 
 /// Names and bytes.
 pub fn files() -> Vec<(String, Vec<u8>)> {
     let random = &mut Random::new(2026);
     let [eight, one] = [(100, 8, 2), (2, 1, 1)].map(|shape| of_shape(random, shape));
-    let mut three = inputs(random, Parameters { modulus: 9, n: 3, m: 1 });
-    three.votes = vec![5, 2, 5];
-    let three = board(random, &three, BOTH);
+    let three = with_votes(random, 9, &[5, 2, 5]);
     let refused = RULES.map(|rule| (format!("refused-{rule}.board"), refused_by(random, rule)));
     let [twenty, lists] = [(10, 20, 2), (u32::MAX, 7, 12)].map(|shape| of_shape(random, shape));
+    let ranked = with_votes(random, 1_000_000_000, &RANKED);
     let accepted = [
         ("eight-ballots.board", eight),
         ("one-ballot.board", one),
         ("votes-2-5-5.board", three),
         ("twenty-ballots.board", twenty),
         ("twenty-four-lists.board", lists),
+        ("ranked.board", ranked),
     ];
     let accepted = accepted.map(|(name, board)| (name.to_string(), written(&board)));
     accepted.into_iter().chain(refused).collect()
@@ -34,6 +42,13 @@ pub fn files() -> Vec<(String, Vec<u8>)> {
 /// An honest board of these M, n and m.
 fn of_shape(random: &mut Random, (modulus, n, m): (u32, u32, u32)) -> Board {
     honest(random, Parameters { modulus, n, m }, BOTH)
+}
+
+/// An honest board of these votes, with two lists.
+pub fn with_votes(random: &mut Random, modulus: u32, votes: &[u32]) -> Board {
+    let parameters = Parameters { modulus, n: votes.len() as u32, m: 1 };
+    let inputs = Inputs { votes: votes.to_vec(), ..inputs(random, parameters) };
+    board(random, &inputs, BOTH)
 }
 
 /// A board that the program refuses by this rule.
