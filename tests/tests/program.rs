@@ -1,28 +1,40 @@
-//! The program's page beside the reference's: `PADDOCKYEAR_PROGRAM` names the program, which is else looked for in `../target/bin`.
+//! The programs' pages beside the reference's: `PADDOCKYEAR_PROGRAM` names the program `scrutineer`
+//! and `PADDOCKYEAR_TELLER` the program `teller`, which are else looked for in `../target/bin`.
 
+use std::ffi::OsStr;
 use std::fs;
 use std::io::Write;
+use std::os::unix::ffi::OsStrExt;
 use std::path::{Path, PathBuf};
-use std::process::{Command, Stdio};
+use std::process::{Command, Output, Stdio};
 
 use paddockyear_tests::boards::damage::damaged;
+use paddockyear_tests::boards::samples::{with_votes, RANKED};
 use paddockyear_tests::boards::{honest, parameters, BOTH};
 use paddockyear_tests::random::Random;
 use paddockyear_tests::reference::judge::Judging;
-use paddockyear_tests::reference::page::{page, LONGEST};
+use paddockyear_tests::reference::page::{candidates_of, page, teller_page, LONGEST};
 
-fn program() -> PathBuf {
-    std::env::var_os("PADDOCKYEAR_PROGRAM").map_or_else(
-        || Path::new(env!("CARGO_MANIFEST_DIR")).join("../target/bin/scrutineer"),
-        PathBuf::from,
-    )
+fn program(variable: &str, name: &str) -> PathBuf {
+    let built = || Path::new(env!("CARGO_MANIFEST_DIR")).join("../target/bin").join(name);
+    std::env::var_os(variable).map_or_else(built, PathBuf::from)
 }
 
-/// What the program writes for this input, which it may stop reading where it is too long.
-fn printed(input: &[u8]) -> String {
-    let mut child = Command::new(program())
+fn scrutineer() -> PathBuf {
+    program("PADDOCKYEAR_PROGRAM", "scrutineer")
+}
+
+fn teller() -> PathBuf {
+    program("PADDOCKYEAR_TELLER", "teller")
+}
+
+/// What a program writes for this input, which it may stop reading where it is too long.
+fn output(program: PathBuf, arguments: &[&OsStr], input: &[u8]) -> Output {
+    let mut child = Command::new(program)
+        .args(arguments)
         .stdin(Stdio::piped())
         .stdout(Stdio::piped())
+        .stderr(Stdio::piped())
         .spawn()
         .expect("the program runs");
     let mut stdin = child.stdin.take().expect("a pipe");
@@ -32,34 +44,50 @@ fn printed(input: &[u8]) -> String {
     });
     let output = child.wait_with_output().expect("the program ends");
     writer.join().expect("the writer ends");
+    output
+}
+
+/// The page that a program writes, with nothing beside it.
+fn page_of(output: Output) -> String {
     assert!(output.status.success());
+    assert_eq!(output.stderr, b"");
     String::from_utf8(output.stdout).expect("a page is plain text")
+}
+
+fn printed(input: &[u8]) -> String {
+    page_of(output(scrutineer(), &[], input))
 }
 
 fn check(input: &[u8]) {
     assert_eq!(printed(input), page(input));
 }
 
-#[test]
-fn sample_boards() {
+/// Names and bytes of the sample boards.
+fn samples() -> Vec<(String, Vec<u8>)> {
     let folder = Path::new(env!("CARGO_MANIFEST_DIR")).join("../samples");
-    let mut seen = 0;
+    let mut found = Vec::new();
     for entry in fs::read_dir(folder).expect("the samples are there") {
         let path = entry.expect("a file").path();
         if path.extension().is_none_or(|end| end != "board") {
             continue;
         }
         let name = path.file_stem().unwrap().to_string_lossy().into_owned();
-        let record = fs::read(&path).expect("a board can be read");
+        found.push((name, fs::read(&path).expect("a board can be read")));
+    }
+    assert!(found.len() >= 12);
+    found
+}
+
+#[test]
+fn sample_boards() {
+    for (name, record) in samples() {
         let text = printed(&record);
         assert_eq!(text, page(&record), "{name}");
         match name.strip_prefix("refused-") {
             Some(rule) => assert_eq!(text, format!("REFUSED {rule}\n")),
             None => assert!(text.starts_with("ACCEPTED\n"), "{name}"),
         }
-        seen += 1;
     }
-    assert!(seen >= 12);
 }
 
 #[test]
@@ -85,7 +113,146 @@ fn length_of_the_input() {
 #[test]
 fn unreadable_input() {
     let folder = fs::File::open(env!("CARGO_MANIFEST_DIR")).expect("a folder can be opened");
-    let output = Command::new(program()).stdin(folder).output().expect("the program runs");
+    let output = Command::new(scrutineer()).stdin(folder).output().expect("the program runs");
+    assert_eq!(output.stdout, b"");
+    assert_eq!(output.stderr, b"standard input cannot be read\n");
+}
+
+/// The page of `teller`, which is the reference's.
+fn told(candidates: &str, record: &[u8]) -> String {
+    let number = candidates_of(&[candidates]).expect("a number");
+    let text = page_of(output(teller(), &[OsStr::new(candidates)], record));
+    assert_eq!(text, teller_page(number, record), "{candidates} candidates");
+    text
+}
+
+const EVERY_NUMBER: [&str; 9] = ["1", "2", "3", "4", "5", "6", "7", "8", "9"];
+
+#[test]
+fn teller_on_sample_boards() {
+    for (name, record) in samples() {
+        for candidates in EVERY_NUMBER {
+            let text = told(candidates, &record);
+            match name.strip_prefix("refused-") {
+                Some(rule) => assert_eq!(text, format!("REFUSED {rule}\n")),
+                None => assert!(text.starts_with("ACCEPTED\nROUND\t#1\t"), "{name}"),
+            }
+        }
+    }
+}
+
+/// Votes out of a few rankings of any number of candidates, blank and spoiled ones.
+fn ranked_votes(random: &mut Random) -> Vec<u32> {
+    let pool: Vec<u32> = (0..1 + random.index(8)).map(|_| ranked_vote(random)).collect();
+    (0..1 + random.index(40)).map(|_| random.pick(&pool)).collect()
+}
+
+fn ranked_vote(random: &mut Random) -> u32 {
+    let places = 1 + random.index(9);
+    let order = random.permutation(places);
+    let length = random.pick(&[0, 1, 1, 2, 3, places]).min(places);
+    let vote = order[..length].iter().fold(0, |vote, &place| 10 * vote + 1 + u32::from(place));
+    match random.below(10) {
+        0 => vote / 10 * 10,
+        1 => random.number(1_000_000_000),
+        _ => vote,
+    }
+}
+
+#[test]
+fn teller_on_ranked_boards() {
+    let random = &mut Random::new(310);
+    let (mut rounds, mut without_winner) = ([0; 10], 0);
+    for _ in 0..40 {
+        let votes = ranked_votes(random);
+        let record = with_votes(random, 1_000_000_000, &votes).record();
+        for candidates in EVERY_NUMBER {
+            let text = told(candidates, &record);
+            rounds[text.lines().count() - 5] += 1;
+            without_winner += usize::from(text.contains("WINNER\tNONE\n"));
+        }
+    }
+    assert!(rounds[1..].iter().all(|&count| count > 0), "{rounds:?}");
+    assert!(without_winner > 0);
+}
+
+/// One candidate, and counts of two digits.
+#[test]
+fn teller_on_a_page_worked_out_by_hand() {
+    let votes = [vec![1; 12], vec![21; 20], vec![3; 2], vec![0; 11], vec![44; 10]].concat();
+    let record = with_votes(&mut Random::new(311), 1_000_000_000, &votes).record();
+    let due = "ACCEPTED\nROUND\t#1\tLEAVES\n1\t12\t-\nWINNER\t#1\nBLANK\t11\nSPOILED\t32\n";
+    assert_eq!(told("1", &record), due);
+    let due = "ACCEPTED\nROUND\t#1\t#2\t#3\tLEAVES\n1\t12\t20\t2\t-\n\
+               WINNER\t#2\nBLANK\t11\nSPOILED\t10\n";
+    assert_eq!(told("3", &record), due);
+}
+
+/// A verdict on the record comes before 20.
+#[test]
+fn teller_refuses_numbers_of_candidates() {
+    let record = with_votes(&mut Random::new(312), 1_000_000_000, &RANKED).record();
+    let beyond_words = ["4294967299", "18446744073709551619", "99999999999999999999"];
+    let beyond = ["340282366920938463463374607431768211459", &"9".repeat(1_000)];
+    let small = ["0", "00", "10", "11", "19", "100", "255", "256", "259", "65539"];
+    for candidates in small.into_iter().chain(beyond_words).chain(beyond) {
+        assert_eq!(told(candidates, &record), "REFUSED 20\n", "{candidates}");
+        assert_eq!(told(candidates, &record[1..]), "REFUSED 2\n");
+        assert_eq!(told(candidates, &vec![1; LONGEST + 1]), "TOO LONG\n");
+    }
+    for candidates in ["03", "000000000000000000000000000003", &format!("{}3", "0".repeat(500))] {
+        assert_eq!(told(candidates, &record), teller_page(3, &record));
+    }
+}
+
+#[test]
+fn teller_on_damaged_boards() {
+    let random = &mut Random::new(313);
+    for _ in 0..40 {
+        let candidates = random.pick(&["0", "1", "4", "9", "10"]);
+        let (record, fault) = damaged(random, 6, 2, Judging::Drawn);
+        assert_eq!(told(candidates, &record), format!("REFUSED {}\n", fault.number));
+    }
+}
+
+#[test]
+fn teller_and_the_length_of_the_input() {
+    for candidates in ["0", "3"] {
+        assert_eq!(told(candidates, &[]), "REFUSED 1\n");
+        for length in [1, LONGEST - 1, LONGEST, LONGEST + 1, 3 * LONGEST] {
+            told(candidates, &vec![1; length]);
+        }
+        assert_eq!(told(candidates, &vec![1; LONGEST]), "REFUSED 2\n");
+        assert_eq!(told(candidates, &vec![1; LONGEST + 1]), "TOO LONG\n");
+    }
+}
+
+/// Nothing but how it is used, whatever the record.
+#[test]
+fn teller_and_bad_arguments() {
+    let record = with_votes(&mut Random::new(314), 1_000_000_000, &RANKED).record();
+    let single =
+        ["", " ", "+3", "-3", "3 ", " 3", "3\n", "3.0", "0x3", "3a", "a3", "/3", "3:", "\u{663}"];
+    let mut wrong: Vec<Vec<&OsStr>> = single.iter().map(|word| vec![OsStr::new(word)]).collect();
+    wrong.extend(
+        [&[][..], &["3", "4"], &["3", "3", "3"], &["3", ""], &["", "3"]]
+            .map(|words| words.iter().map(OsStr::new).collect::<Vec<_>>()),
+    );
+    wrong.push(vec![OsStr::from_bytes(b"3\xFF")]);
+    for arguments in wrong {
+        for input in [&record[..], &record[1..], &[1; LONGEST + 1], &[]] {
+            let output = output(teller(), &arguments, input);
+            assert_eq!(output.stdout, b"", "{arguments:?}");
+            assert_eq!(output.stderr, b"usage: teller CANDIDATES < record\n", "{arguments:?}");
+        }
+    }
+}
+
+/// What can't be read, as a folder, gets no verdict.
+#[test]
+fn teller_on_unreadable_input() {
+    let folder = fs::File::open(env!("CARGO_MANIFEST_DIR")).expect("a folder can be opened");
+    let output = Command::new(teller()).arg("3").stdin(folder).output().expect("the program runs");
     assert_eq!(output.stdout, b"");
     assert_eq!(output.stderr, b"standard input cannot be read\n");
 }

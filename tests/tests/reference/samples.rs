@@ -1,11 +1,12 @@
-//! Document 01's samples of the terms and of the page.
+//! Document 01's samples of the terms and of the page, and the runoff's page.
 
+use paddockyear_tests::boards::samples::with_votes;
 use paddockyear_tests::boards::{board, inputs, BOTH};
 use paddockyear_tests::random::Random;
 use paddockyear_tests::reference::columns::{column, composed};
 use paddockyear_tests::reference::drawing::choose;
 use paddockyear_tests::reference::judge::{judge, Judging};
-use paddockyear_tests::reference::page::page;
+use paddockyear_tests::reference::page::{candidates_of, page, teller_page};
 use paddockyear_tests::reference::tablet::SplitVote;
 use paddockyear_tests::reference::terms::*;
 
@@ -71,4 +72,40 @@ fn page_of_2_5_5() {
     assert_eq!(page(&[]), "REFUSED 1\n");
     assert_eq!(page(&[0x01; 65_536]), "REFUSED 2\n");
     assert_eq!(page(&[0x01; 65_537]), "TOO LONG\n");
+}
+
+/// Worked out by hand: 4, 3 and 2 votes, of which one for 3 goes on to 1 and the other to 2.
+#[test]
+fn page_of_two_rounds() {
+    let votes = [1, 13, 12, 1, 2, 21, 2, 31, 32, 0, 0, 33];
+    let record = with_votes(&mut Random::new(6), 1_000, &votes).record();
+    let due = "ACCEPTED\nROUND\t#1\t#2\t#3\tLEAVES\n1\t4\t3\t2\t#3\n2\t5\t4\t-\t-\n\
+               WINNER\t#1\nBLANK\t2\nSPOILED\t1\n";
+    assert_eq!(teller_page(3, &record), due);
+    let due = "ACCEPTED\nROUND\t#1\tLEAVES\n1\t2\t-\nWINNER\t#1\nBLANK\t2\nSPOILED\t8\n";
+    assert_eq!(teller_page(1, &record), due);
+    for candidates in [0, 10, u32::MAX] {
+        assert_eq!(teller_page(candidates, &record), "REFUSED 20\n");
+        assert_eq!(teller_page(candidates, &record[1..]), "REFUSED 2\n");
+        assert_eq!(teller_page(candidates, &[1; 65_537]), "TOO LONG\n");
+    }
+}
+
+#[test]
+fn page_without_a_winner() {
+    let record = with_votes(&mut Random::new(7), 1_000, &[0, 0, 30, 3]).record();
+    let due = "ACCEPTED\nROUND\t#1\t#2\tLEAVES\n1\t0\t0\t-\n\
+               WINNER\tNONE\nBLANK\t2\nSPOILED\t2\n";
+    assert_eq!(teller_page(2, &record), due);
+}
+
+#[test]
+fn arguments() {
+    assert_eq!(candidates_of(&["3"]), Some(3));
+    assert_eq!(candidates_of(&["0003"]), Some(3));
+    assert_eq!(candidates_of(&["10"]), Some(10));
+    assert_eq!(candidates_of(&["4294967299"]), Some(u32::MAX));
+    for wrong in [&[][..], &[""], &["3", "3"], &["+3"], &["-3"], &[" 3"], &["3 "], &["3x"]] {
+        assert_eq!(candidates_of(wrong), None, "{wrong:?}");
+    }
 }
