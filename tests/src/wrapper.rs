@@ -6,6 +6,7 @@ use std::fmt;
 
 use crate::ffi;
 use crate::reference::election::DiceTable;
+use crate::reference::runoff::{Candidate, MOST_CANDIDATES};
 use crate::reference::tablet::SplitVote;
 use crate::reference::terms::Parameters;
 use crate::reference::writer::Inputs;
@@ -24,8 +25,8 @@ impl fmt::Display for Refusal {
 
 impl Error for Refusal {}
 
-/// Document 01's words for each number.
-const RULES: [&str; 20] = [
+/// The papers' words for each number.
+const RULES: [&str; 21] = [
     "",
     "the record stops inside a command or before 0B",
     "a command byte that is not due",
@@ -46,6 +47,7 @@ const RULES: [&str; 20] = [
     "bytes after 0B",
     "a slice of another length than due",
     "a permutation that is none",
+    "the number of candidates outside 1 to 9",
 ];
 
 fn done(answer: u32) -> Result<(), Refusal> {
@@ -227,4 +229,34 @@ pub fn tally(record: &[u8]) -> Result<Vec<(u32, u64)>, Refusal> {
     let mut pairs = 0;
     done(ffi::results::tally(&votes, &mut values, &mut counts, &mut pairs))?;
     Ok(values.into_iter().zip(counts).take(pairs as usize).collect())
+}
+
+/// How the ranked votes of a record were counted.
+#[derive(Clone, Debug, PartialEq, Eq)]
+pub struct Runoff {
+    pub winner: Option<u32>,
+    pub blank: u64,
+    pub spoiled: u64,
+    pub candidates: Vec<Ranked>,
+}
+
+/// A candidate's count in the last round in which it stood, and the round in which it left.
+#[derive(Clone, Copy, Debug, PartialEq, Eq)]
+pub struct Ranked {
+    pub count: u64,
+    pub left: Option<u32>,
+}
+
+/// The instant runoff of the votes that an accepted record announces.
+pub fn runoff(record: &[u8], candidates: u32) -> Result<Runoff, Refusal> {
+    let votes = announced_votes(record)?;
+    let length = candidates.min(MOST_CANDIDATES) as usize; // more are refused whatever the table
+    let mut table = vec![Candidate { count: 0, left: 0 }; length];
+    let (mut winner, mut counts) = (0, [0; 2]);
+    done(ffi::runoff::runoff(&votes, candidates, &mut table, &mut winner, &mut counts))?;
+    let number = |number: u32| (number != 0).then_some(number);
+    let ranked = |entry: Candidate| Ranked { count: entry.count, left: number(entry.left) };
+    let [blank, spoiled] = counts;
+    let candidates = table.into_iter().map(ranked).collect();
+    Ok(Runoff { winner: number(winner), blank, spoiled, candidates })
 }

@@ -104,7 +104,9 @@ fn refused_ballots() {
     assert_eq!(cast(1, &ballot), Err(Refusal(3)));
     assert_eq!(Refusal(3).to_string(), "rule 3: M, n or m outside its limits");
     assert_eq!(Refusal(19).to_string(), "rule 19: a permutation that is none");
-    assert_eq!(Refusal(20).to_string(), "rule 20: no such rule");
+    let candidates = "rule 20: the number of candidates outside 1 to 9";
+    assert_eq!(Refusal(20).to_string(), candidates);
+    assert_eq!(Refusal(21).to_string(), "rule 21: no such rule");
 }
 
 #[test]
@@ -143,6 +145,34 @@ fn refused_records() {
     assert_eq!(look_up(&record[..1000], &receipt), Err(Refusal(1)));
     record[end - 1] ^= 1;
     assert_eq!(tally(&record), Err(Refusal(13)));
+}
+
+/// A vote for each of four candidates: 4 leaves, then 2, then 3, who has as many as 1.
+#[test]
+fn ranked_votes() {
+    let random = &mut Random::new(246);
+    let mut election = election(random);
+    for (ballot, vote) in election.ballots.iter_mut().zip([1, 21, 34, 0, 435, 43]) {
+        ballot.vote = vote;
+    }
+    let record = elect(&election, &drawn(random)).unwrap().record;
+    let ranked = |count, left| Ranked { count, left };
+    let due = Runoff {
+        winner: Some(1),
+        blank: 1,
+        spoiled: 1,
+        candidates: vec![
+            ranked(2, None),
+            ranked(1, Some(2)),
+            ranked(2, Some(3)),
+            ranked(1, Some(1)),
+        ],
+    };
+    assert_eq!(runoff(&record, 4), Ok(due));
+    for candidates in [0, 10, u32::MAX] {
+        assert_eq!(runoff(&record, candidates), Err(Refusal(20)));
+        assert_eq!(runoff(&record[1..], candidates), Err(Refusal(2)));
+    }
 }
 
 /// The same election in the flat order.
