@@ -290,3 +290,70 @@ fn the_translation_has_every_edit_beside_the_code() {
     }
     assert!(!text.contains("ensures"));
 }
+
+/// Types as the runoff has them: laid out for C, with arrays, truth values and other types in them,
+/// lent as slices and by reference.
+const TYPES: &str = "\
+#[repr(C)]
+pub struct Entry {
+    pub count: u64,
+    pub left: u32,
+}
+
+pub enum Answer {
+    Counted(u32, u64, u64),
+    Refused(u32),
+}
+
+enum End {
+    Open,
+    Won(u32),
+}
+
+pub(crate) struct Rounds {
+    counts: [u64; 9],
+    left: [u32; 9],
+    over: bool,
+    end: End,
+}
+
+fn next(before: Rounds, standing: [bool; 9], after: &mut Rounds) -> End {
+    *after = before;
+    End::Open
+}
+
+pub fn count(votes: &[u32], candidates: usize, table: &mut [Entry]) -> Answer
+    ensures { λ r. ⌜ r ≡ r ⌝ }
+{
+    Answer::Refused(20)
+}
+
+#[no_mangle]
+pub extern \"C\" fn face(votes: &[u32], table: &mut [Entry], winner: &mut u32, end: &mut End) -> u32 {
+    table[0] = Entry { count: 0, left: votes[0] };
+    0
+}
+";
+
+#[test]
+fn types_are_translated() {
+    let sources = Sources::new([("src/lib.rt".to_string(), TYPES.to_string())].into());
+    let edit = edit("a in count", "src/lib.rt", "Answer::Refused(20)", "Answer::Refused(18)");
+    let (library, contract) = ("c".to_string(), "count".to_string());
+    let trial = Trial { library: library.clone(), edit, item: contract.clone(), contract };
+    let text = translated(&[Library { name: library, leans_on: Vec::new(), sources }], &[trial])
+        .expect("a translation");
+    let derived = "#[derive(Clone, Copy, Debug, PartialEq)]\n";
+    for part in [
+        &format!("#[repr(C)]\n{derived}pub struct Entry {{\n    pub count: u64,\n"),
+        &format!("{derived}pub enum Answer {{\n    Counted(u32, u64, u64),\n"),
+        &format!("{derived}enum End {{"),
+        &format!("{derived}pub(crate) struct Rounds {{\n    counts: [u64; 9],\n"),
+        "fn next(mut before: Rounds, mut standing: [bool; 9], mut after: &mut Rounds) -> End {",
+        "let mut copy_of_table = table.to_vec();",
+        "table: *mut Entry, length_of_table: usize, winner: *mut u32, end: *mut End)",
+        "slice_mut(table, length_of_table), &mut *winner, &mut *end)",
+    ] {
+        assert!(text.contains(part), "{part}");
+    }
+}

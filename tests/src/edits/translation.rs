@@ -77,7 +77,8 @@ fn file(library: &Library, name: &str, trials: &[Trial]) -> Result<String, Strin
 fn between(lib: &Library, name: &str, text: &str, trials: &[Trial]) -> Result<String, String> {
     let mut all = String::new();
     for line in text.lines() {
-        let words = line.strip_prefix("pub ").unwrap_or(line);
+        let words = line.strip_prefix("pub(crate) ").or(line.strip_prefix("pub "));
+        let words = words.unwrap_or(line);
         if let Some(inner) = words.strip_prefix("mod ").and_then(|rest| rest.strip_suffix(';')) {
             let above = module_of(name).replace("::", "/");
             let path = format!("src/{above}/{inner}.rt").replace("//", "/");
