@@ -1,6 +1,6 @@
 /* What include/paddockyear.h says beside the calls that officer.c makes: the words for each number, the lengths, empty slices with null
- * pointers, inputs that overlap, lane order, places of faults, what lies behind a tally's last pair, and the functions over structs beside
- * the long ones. It is compiled as C99 and as C++; a call that answers anything else than due ends it with 1. */
+ * pointers, inputs that overlap, lane order, places of faults, what lies behind a tally's last pair or a runoff's table, and the functions
+ * over structs beside the long ones. It is compiled as C99 and as C++; a call that answers anything else than due ends it with 1. */
 
 #include "paddockyear.h"
 
@@ -53,8 +53,8 @@ static struct paddockyear_parts lent_parts(void) {
 }
 
 static void say_rules(void) {
-    static const uint32_t others[] = {20, 100, 101, 102, 103, UINT32_MAX};
-    for (uint32_t number = 0; number < 20; number++) printf("%lu %s\n", (unsigned long)number, paddockyear_rule(number));
+    static const uint32_t others[] = {21, 100, 101, 102, 103, UINT32_MAX};
+    for (uint32_t number = 0; number <= 20; number++) printf("%lu %s\n", (unsigned long)number, paddockyear_rule(number));
     for (size_t i = 0; i < LENGTH(others); i++) printf("%lu %s\n", (unsigned long)others[i], paddockyear_rule(others[i]));
 }
 
@@ -301,6 +301,73 @@ static void take_results(void) {
     report("announced votes and tally");
 }
 
+/* A table of as many candidates as there may be, and one entry behind it, none of them as a runoff leaves it. */
+static void fill_table(struct paddockyear_candidate *table) {
+    for (uint32_t i = 0; i <= PADDOCKYEAR_MOST_CANDIDATES; i++) table[i].count = 90 + i, table[i].left = 80 + i;
+}
+
+/* 1 where the entries from a place on are still as they were filled, else 0. */
+static uint32_t filled_from(const struct paddockyear_candidate *table, uint32_t from) {
+    uint32_t same = 1;
+    for (uint32_t i = from; i <= PADDOCKYEAR_MOST_CANDIDATES; i++) same &= table[i].count == 90 + i && table[i].left == 80 + i;
+    return same;
+}
+
+/* A refused runoff changes neither the table nor the three numbers beside it. */
+static void refuse_runoffs(void) {
+    static const uint32_t ranked[] = {12, 21, 0, 2, 33};
+    struct paddockyear_candidate table[PADDOCKYEAR_MOST_CANDIDATES + 1];
+    uint32_t winner = 77;
+    uint64_t blank = 78, spoiled = 79;
+    fill_table(table);
+    EXPECT(20, paddockyear_runoff(LENT(ranked), 0, NONE, &winner, &blank, &spoiled));
+    EXPECT(20, paddockyear_runoff(LENT(ranked), 0, table, 1, &winner, &blank, &spoiled));
+    EXPECT(20, paddockyear_runoff(LENT(ranked), PADDOCKYEAR_MOST_CANDIDATES + 1, LENT(table), &winner, &blank, &spoiled));
+    EXPECT(20, paddockyear_runoff(LENT(ranked), UINT32_MAX, LENT(table), &winner, &blank, &spoiled));
+    EXPECT(20, paddockyear_runoff(NONE, UINT32_MAX, NONE, &winner, &blank, &spoiled));
+    EXPECT(18, paddockyear_runoff(LENT(ranked), 2, NONE, &winner, &blank, &spoiled));
+    EXPECT(18, paddockyear_runoff(LENT(ranked), 2, table, 1, &winner, &blank, &spoiled));
+    EXPECT(18, paddockyear_runoff(LENT(ranked), 2, table, 3, &winner, &blank, &spoiled));
+    EXPECT(18, paddockyear_runoff(LENT(ranked), PADDOCKYEAR_MOST_CANDIDATES, LENT(table), &winner, &blank, &spoiled));
+    EXPECT(18, paddockyear_runoff(NONE, 1, NONE, &winner, &blank, &spoiled));
+    EXPECT(1, filled_from(table, 0));
+    EXPECT(77, winner);
+    EXPECT(78, (uint32_t)blank);
+    EXPECT(79, (uint32_t)spoiled);
+    report("refused runoffs");
+}
+
+/* Whatever a runoff says of one candidate. */
+static void expect_entry(const struct paddockyear_candidate *entry, uint32_t count, uint32_t left) {
+    EXPECT(1, entry->count == count);
+    EXPECT(left, entry->left);
+}
+
+static void run_off(void) {
+    static const uint32_t ranked[] = {12, 21, 0, 2, 33};
+    struct paddockyear_candidate table[PADDOCKYEAR_MOST_CANDIDATES + 1];
+    uint32_t winner = 77;
+    uint64_t blank = 78, spoiled = 79;
+    fill_table(table);
+    EXPECT(0, paddockyear_runoff(NONE, 2, table, 2, &winner, &blank, &spoiled));
+    EXPECT(1, winner == 0 && blank == 0 && spoiled == 0);
+    expect_entry(&table[0], 0, 0);
+    expect_entry(&table[1], 0, 0);
+    EXPECT(0, paddockyear_runoff(LENT(ranked), 2, table, 2, &winner, &blank, &spoiled)); /* two of three votes */
+    EXPECT(1, winner == 2 && blank == 1 && spoiled == 1);
+    expect_entry(&table[0], 1, 0);
+    expect_entry(&table[1], 2, 0);
+    EXPECT(0, paddockyear_runoff(ranked, 2, 2, table, 2, &winner, &blank, &spoiled)); /* one of two, so that 2 leaves */
+    EXPECT(1, winner == 1 && blank == 0 && spoiled == 0);
+    expect_entry(&table[0], 2, 0);
+    expect_entry(&table[1], 1, 1);
+    EXPECT(1, filled_from(table, 2));
+    EXPECT(0, paddockyear_runoff(LENT(ranked), PADDOCKYEAR_MOST_CANDIDATES, table, PADDOCKYEAR_MOST_CANDIDATES, &winner, &blank, &spoiled));
+    EXPECT(1, filled_from(table, PADDOCKYEAR_MOST_CANDIDATES));
+    EXPECT(0, filled_from(table, PADDOCKYEAR_MOST_CANDIDATES - 1));
+    report("runoffs");
+}
+
 int main(void) {
     say_rules();
     try_lengths();
@@ -315,5 +382,7 @@ int main(void) {
     find_faults();
     ask_for_receipts();
     take_results();
+    refuse_runoffs();
+    run_off();
     return fflush(stdout) == 0 && !ferror(stdout) ? 0 : 1;
 }

@@ -25,7 +25,9 @@ static const struct paddockyear_parts parts = {LENT(one), LENT(two), LENT(three)
 static uint8_t command[PADDOCKYEAR_COMMAND_LENGTH], receipt[PADDOCKYEAR_RECEIPT_LENGTH], digest[32];
 static uint32_t out[BALLOTS], values[BALLOTS], answer;
 static uint64_t counts[BALLOTS];
-static uint64_t lanes[25], place, pairs;
+static uint64_t lanes[25], place, pairs, blank, spoiled;
+static uint32_t winner;
+static struct paddockyear_candidate table[PADDOCKYEAR_MOST_CANDIDATES];
 
 static void keccak_f(void) { paddockyear_keccak_f(lanes); }
 static void sha3_224(void) { paddockyear_sha3_224(LENT(keys), digest); }
@@ -56,6 +58,9 @@ static void check_receipt(void) { answer = paddockyear_check_receipt(joined, siz
 static void look_up(void) { answer = paddockyear_look_up(joined, sizeof joined, LENT(receipt)) == 101 ? 0 : 1; }
 static void announced_votes(void) { answer = paddockyear_announced_votes(LENT(joined), LENT(out)); }
 static void tally(void) { answer = paddockyear_tally(LENT(out), LENT(values), LENT(counts), &pairs); }
+static void runoff(void) {
+    answer = paddockyear_runoff(LENT(votes), PADDOCKYEAR_MOST_CANDIDATES, LENT(table), &winner, &blank, &spoiled);
+}
 
 struct row {
     const char *name;
@@ -90,6 +95,7 @@ static const struct row rows[] = {
     ROW(look_up, PADDOCKYEAR_STACK),
     ROW(announced_votes, PADDOCKYEAR_STACK_JUDGING),
     ROW(tally, PADDOCKYEAR_STACK),
+    ROW(runoff, PADDOCKYEAR_STACK),
 };
 
 static void fill(void) {
