@@ -1,12 +1,14 @@
-//! Calls of public functions as no face makes them, so that their edits are tried on these too;
-//! with the feature `edited`. The program alone calls `put_result`.
+//! Calls of public functions as no face makes them, so that their edits are tried on these too, and
+//! short ones of the runoff; with the feature `edited`. The program alone calls `put_result`.
 
 use paddockyear_tests::boards::inputs;
 use paddockyear_tests::boards::samples::files;
 use paddockyear_tests::edited::protocol::{Verdict, Written};
 use paddockyear_tests::edited::{disclosure, results, verifier, wire};
 use paddockyear_tests::random::Random;
+use paddockyear_tests::reference::runoff::Candidate;
 use paddockyear_tests::reference::terms::Parameters;
+use paddockyear_tests::subjects::product::runoff;
 
 #[test]
 fn slices_of_two_lengths() {
@@ -65,4 +67,25 @@ fn places_of_twelve_lists() {
         &mut out,
     );
     assert_eq!(answer, Written::Done);
+}
+
+/// Refusals and elections of few votes: the suite's long ones take up the work that an edit is tried
+/// for.
+#[test]
+fn small_runoffs() {
+    let ties = [1, 2, 3, 12, 21, 31, 0, 11, 10, 4];
+    let numbers = (0..=11).chain([256, 259, 65_539, u32::MAX]);
+    let (mut counted, mut refused) = (0, [0; 21]);
+    for candidates in numbers {
+        for length in 0..=11 {
+            let mut table = vec![Candidate { count: 77, left: 77 }; length];
+            for votes in [&ties[..0], &ties[..2], &ties[..3], &ties[2..5], &ties] {
+                match runoff(votes, candidates, &mut table) {
+                    Ok(_) => counted += 1,
+                    Err(number) => refused[usize::from(number)] += 1,
+                }
+            }
+        }
+    }
+    assert_eq!((counted, refused[18], refused[20]), (5 * 9, 5 * 9 * 11, 5 * 7 * 12));
 }

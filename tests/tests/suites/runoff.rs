@@ -163,7 +163,7 @@ fn every_vote_of_four_digits() {
 }
 
 #[test]
-fn all_votes_of_four_digits_together() {
+fn four_digits_on_many_ballots() {
     let votes: Vec<u32> = (0..=9999).collect();
     for candidates in 1..=9 {
         check(&votes, candidates);
