@@ -25,7 +25,7 @@ static void say(uint32_t number, const struct paddockyear_candidate *candidate) 
 
 /* Prints the runoff of an accepted record; answers 0, or the number of the rule that is broken. */
 static uint32_t print_runoff(size_t length, uint32_t candidates) {
-    struct paddockyear_candidate table[PADDOCKYEAR_MOST_CANDIDATES]; /* as long as there are candidates, where they may be so many */
+    struct paddockyear_candidate table[PADDOCKYEAR_MOST_CANDIDATES];
     size_t ballots = (size_t)record[5] << 8 | record[6];
     uint32_t winner = 0;
     uint64_t blank = 0, spoiled = 0;
