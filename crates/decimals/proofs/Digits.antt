@@ -10,7 +10,7 @@ use Rattle.laws.specs.Tests.{below, pick, is-below, not-below}
 use Rattle.laws.specs.Bytes.{bytes, length-bytes}
 use Rattle.protocol.specs.Terms.{digits, decimal}
 
-one-byte : (x : ℕ) → x < 256 → bytes 1 x ≡ x ∷ []
+pub one-byte : (x : ℕ) → x < 256 → bytes 1 x ≡ x ∷ []
 unfolding bytes
 one-byte x h = ap (λ (b : ℕ). b ∷ []) (mod-eq-of-lt h)
 

@@ -16,3 +16,4 @@ pub mod Writing
 pub mod Spans
 pub mod Lent
 pub mod Marks
+pub mod Counting

@@ -1,0 +1,3 @@
+pub mod Ranking
+pub mod Rounds
+pub mod Told
