@@ -7,6 +7,7 @@ use Rattle.laws.specs.Tests.{choose}
 use Rattle.laws.specs.declared.Found.{Found}
 use Rattle.laws.specs.declared.Found.the-variants.{Nothing, Fault}
 use Rattle.protocol.specs.Answers.{Answer, done, refused, answerOf, accepted}
+use Rattle.protocol.specs.Terms.{item}
 use Rattle.election.specs.declared.Outcome.{Outcome}
 use Rattle.election.specs.declared.Outcome.the-variants as outcome
 use Rattle.election.specs.Holding.{outcomeAnswer}
@@ -15,6 +16,11 @@ use Rattle.election.specs.Holding.{outcomeAnswer}
 unfoldable pub codeOf : Answer → ℕ
 codeOf (done values) = 0
 codeOf (refused k) = k
+
+-- value i of an answer, or the number that was lent for it as it was
+unfoldable pub valueIn : Answer → ℕ → ℕ → ℕ
+valueIn (done values) i before = item values i
+valueIn (refused k) i before = before
 
 -- of receipt check and lookup: 0 posted as printed, 101 posted otherwise, 102 not posted, else the refusal's number
 unfoldable pub receiptCode : Answer → ℕ
@@ -36,10 +42,15 @@ placeIn (Fault k place) before = place
 
 -- ---- what an answer says of its refusal's number
 
-code-is : (k : ℕ) (values : List ℕ) → codeOf (answerOf k values) ≡ k
+pub code-is : (k : ℕ) (values : List ℕ) → codeOf (answerOf k values) ≡ k
 unfolding codeOf answerOf
 code-is zero values = refl
 code-is (suc k) values = refl
+
+pub value-is : (k : ℕ) (values : List ℕ) (i before : ℕ) → valueIn (answerOf k values) i before ≡ choose k (item values i) before
+unfolding valueIn answerOf choose
+value-is zero values i before = refl
+value-is (suc k) values i before = refl
 
 pub code-of : (k : ℕ) {a : Answer} {r : ℕ} → a ≡ answerOf k [] → r ≡ codeOf a → r ≡ k
 code-of k e h = h ∙ ap codeOf e ∙ code-is k []

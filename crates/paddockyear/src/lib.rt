@@ -20,13 +20,16 @@ ghost use Rattle.protocol.specs.Judging.{firstFault};
 ghost use Rattle.protocol.specs.Election.{choiceOf};
 ghost use Rattle.election.specs.Holding.{lent, buffers, Held};
 ghost use Rattle.protocol.specs.Results.{receiptChecked, lookedUp, announcedVotes, announcedRefusal, distinctVotes, voteCounts, tallyRefusal, inFront, drawRefusal};
-ghost use Rattle.paddockyear.specs.Codes.{codeOf, receiptCode, placeIn, outcomeCode};
+ghost use Rattle.runoff.specs.Rounds as rounds;
+ghost use Rattle.paddockyear.specs.Codes.{codeOf, valueIn, receiptCode, placeIn, outcomeCode};
 use election::Outcome;
 use laws::Found;
 use protocol::Draw;
 use protocol::Receipt;
 use protocol::Tally;
 use protocol::Written;
+use runoff::Candidate;
+use runoff::Runoff;
 
 // Keccak-f[1600], in place.
 #[no_mangle]
@@ -542,4 +545,46 @@ pub extern "C" fn paddockyear_announced_votes(bytes: &[u8], out: &mut [u32]) -> 
         ⌜ (r ≡ k) × (after out ≡ afterwards k (before out) (announcedVotes (before bytes))) ⌝ }
 {
     written_code(results::votes::announced_votes(bytes, out))
+}
+
+// ---- ranked votes
+
+// The number of an answer; its values into the numbers that are lent for them.
+fn runoff_code(r: Runoff, winner: &mut u32, blank: &mut u64, spoiled: &mut u64) -> u32
+    ensures { λ k. let answer = rounds.runoffAnswer r in
+        ⌜ (k ≡ codeOf answer)
+        × ((now (winner .exit) ≡ valueIn answer 0 (now (winner .entry)))
+        × ((now (blank .exit) ≡ valueIn answer 1 (now (blank .entry))) × (now (spoiled .exit) ≡ valueIn answer 2 (now (spoiled .entry))))) ⌝ }
+{
+    match r {
+        Runoff::Refused(k) => k,
+        Runoff::Counted(w, b, s) => {
+            *winner = w;
+            *blank = b;
+            *spoiled = s;
+            0
+        }
+    }
+}
+
+// Ranked votes by instant runoff; on a refusal all that is lent is as it was.
+#[no_mangle]
+pub extern "C" fn paddockyear_runoff(
+    votes: &[u32],
+    candidates: u32,
+    table: &mut [Candidate],
+    winner: &mut u32,
+    blank: &mut u64,
+    spoiled: &mut u64,
+) -> u32
+    ensures { λ r.
+        let k = rounds.runoffRefusal candidates (length (now (table .entry))) in
+        ⌜ (r ≡ k)
+        × ((now (winner .exit) ≡ choose k (rounds.winner candidates (before votes)) (now (winner .entry)))
+        × ((now (blank .exit) ≡ choose k (rounds.blankVotes (before votes)) (now (blank .entry)))
+        × ((now (spoiled .exit) ≡ choose k (rounds.spoiledVotes candidates (before votes)) (now (spoiled .entry)))
+        × (now (table .exit) ≡ rounds.tableAfter candidates (before votes) (now (table .entry)))))) ⌝ }
+{
+    let r = runoff::run_off(votes, candidates as usize, table);
+    runoff_code(r, winner, blank, spoiled)
 }
