@@ -4,4 +4,5 @@ pub mod Announcing
 pub mod Distinct
 pub mod Tallied
 pub mod Lines
+pub mod Paging
 mod Looking

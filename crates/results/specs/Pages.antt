@@ -9,6 +9,10 @@ use Rattle.protocol.specs.Results.{announcedVotes}
 use Rattle.results.specs.Ready.{VotesReady}
 use Rattle.results.specs.Tallies.{TallyReady}
 
+-- the page of a record that is refused: the word, at most ten digits and the line's end
+abbrev pub refusedMost : ℕ
+refusedMost = 19
+
 -- a line is at most 22 bytes long: two numbers of at most ten digits, a space and the line's end
 abbrev pub lineMost : ℕ
 lineMost = 22

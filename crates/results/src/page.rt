@@ -1,20 +1,31 @@
-// The page of a record: the lines of its tally.
+// The page of a record: of one that is refused, and the lines of a tally.
 ghost use mathlib.Core.Bool.{true};
+ghost use mathlib.Core.List.{[], _∷_, _++_};
 ghost use mathlib.Core.Path.{_≡_};
 ghost use Prim.Native.Nat.{_+_, _*_, _≤_};
 ghost use lib.ListN.{length};
 ghost use Rattle.laws.specs.Chunks.{chunks};
 ghost use Rattle.laws.specs.Lent.{before, after};
 ghost use Rattle.laws.specs.Writing.{Went};
-ghost use Rattle.protocol.specs.Terms.{item, mostBallots};
+ghost use Rattle.protocol.specs.Terms.{item, mostBallots, decimal};
 ghost use Rattle.protocol.specs.Judging.{firstFault};
-ghost use Rattle.protocol.specs.Results.{announcedVotes, tallyLine, tallyLines};
-ghost use Rattle.results.specs.Pages.{lineMost, LinesReady, LinesRoom, AnnouncedRoom};
+ghost use Rattle.protocol.specs.Results.{announcedVotes, refusedWord, tallyLine, tallyLines};
+ghost use Rattle.results.specs.Pages.{refusedMost, lineMost, LinesReady, LinesRoom, AnnouncedRoom};
 use crate::tally::fill;
 use crate::votes::read_votes;
 use laws::Found;
 use protocol::MOST_BALLOTS;
 use protocol::Parameters;
+
+// Writes the page of a record that breaks a rule, and answers its length.
+pub fn put_refused(number: u32, out: &mut [u8]) -> usize
+    requires { ⌜ refusedMost ≤ length (now out) ⌝ }
+    ensures { λ r. ⌜ Went (before out) 0 (refusedWord ++ (decimal number ++ (10 ∷ []))) (after out) r ⌝ }
+{
+    let at = wire::copy(out, 0, b"REFUSED ");
+    let end = decimals::put_decimal(out, at, number);
+    wire::copy(out, end, b"\n")
+}
 
 // Writes the line of a vote, one space, and how often it was announced from a place on, and answers the next place.
 fn put_line(out: &mut [u8], at: usize, vote: u32, count: u32) -> usize

@@ -14,7 +14,7 @@ use protocol::Parameters;
 use protocol::Written;
 
 // Reads the announced votes of a record that stands into a slice of one number a ballot.
-pub(crate) fn read_votes(bytes: &[u8], p: Parameters, out: &mut [u32])
+pub fn read_votes(bytes: &[u8], p: Parameters, out: &mut [u32])
     requires { ⌜ VotesReady p (now bytes) (length (now out)) ⌝ }
     ensures { λ _. ⌜ after out ≡ announcedVotes (before bytes) ⌝ }
 {

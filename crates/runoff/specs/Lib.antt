@@ -1,3 +1,4 @@
 pub mod Ranking
 pub mod Rounds
+pub mod Page
 pub mod Told

@@ -101,7 +101,8 @@ table candidates votes = let s = result candidates votes in take candidates (ent
 
 -- "Checks: 20, the number of candidates outside 1 to 9; then 18, the table not of that length."
 unfoldable pub runoffRefusal : ℕ → ℕ → ℕ
-runoffRefusal candidates tableLong = rule 20 (atMost 1 candidates and atMost candidates mostCandidates) (rule 18 (equal tableLong candidates) kept)
+runoffRefusal candidates tableLong =
+    rule 20 (atMost 1 candidates and atMost candidates mostCandidates) (rule 18 (equal tableLong candidates) kept)
 
 -- the winner, 0 for none; "Blank and spoiled votes are counted apart."
 unfoldable pub winner : ℕ → List ℕ → ℕ

@@ -1,4 +1,6 @@
 // Ranked votes by instant runoff.
+pub mod page;
+
 ghost use mathlib.Core.Bool.{true};
 ghost use mathlib.Core.List.{_++_};
 ghost use mathlib.Core.Path.{_≡_};

@@ -6,33 +6,20 @@ ghost use Prim.Native.Nat.{_≤_};
 ghost use lib.ListN.{length};
 ghost use Rattle.laws.specs.Lent.{before, after};
 ghost use Rattle.laws.specs.Writing.{Went};
-ghost use Rattle.protocol.specs.Terms.{decimal};
 ghost use Rattle.protocol.specs.Judging.{firstFault};
 ghost use Rattle.protocol.specs.Results as definitions;
-ghost use Rattle.scrutineer.specs.Lengths.{pageMost, Read};
+ghost use Rattle.scrutineer.specs.Lengths.{pageMost};
+use input::Input;
+use input::LONGEST_RECORD;
 use laws::Found;
 use libc::STDERR_FILENO;
-use libc::STDIN_FILENO;
 use libc::STDOUT_FILENO;
 use protocol::MOST_BALLOTS;
-
-// The most bytes that a record may have.
-const LONGEST_RECORD: usize = 65536;
 
 // The most bytes that a page may have: the first line, and a line of at most 22 for each ballot.
 const LONGEST_PAGE: usize = 9 + 22 * MOST_BALLOTS;
 
 // ---- the page
-
-// Writes the page of a record that breaks a rule, and answers its length.
-fn put_refused(number: u32, out: &mut [u8]) -> usize
-    requires { ⌜ pageMost ≤ length (now out) ⌝ }
-    ensures { λ r. ⌜ Went (before out) 0 (definitions.refusedWord ++ (decimal number ++ (10 ∷ []))) (after out) r ⌝ }
-{
-    let at = wire::copy(out, 0, b"REFUSED ");
-    let end = decimals::put_decimal(out, at, number);
-    wire::copy(out, end, b"\n")
-}
 
 // Writes the page of an accepted record, and answers its length.
 fn put_accepted(bytes: &[u8], out: &mut [u8]) -> usize
@@ -54,36 +41,11 @@ pub fn put_page(bytes: &[u8], out: &mut [u8; LONGEST_PAGE]) -> usize
     }
     match verifier::first_fault(bytes, true) {
         Found::Nothing => put_accepted(bytes, out),
-        Found::Fault(number, _) => put_refused(number, out),
+        Found::Fault(number, _) => results::page::put_refused(number, out),
     }
 }
 
 // ---- what is read and written
-
-// So many bytes, or a standard input that cannot be read.
-enum Input {
-    Bytes(usize),
-    Unreadable,
-}
-
-// Reads until the buffer is full or standard input ends.
-fn read_input(buf: &mut [u8]) -> Input
-    ensures { λ r. ⌜ Read r (length (after buf)) ⌝ }
-{
-    let mut n: usize = 0;
-    while n < buf.len() {
-        let got = libc::read(STDIN_FILENO, &mut buf[n..]);
-        if got < 0 {
-            return Input::Unreadable;
-        }
-        let k = io::count(got, &buf[n..]);
-        if k == 0 {
-            return Input::Bytes(n);
-        }
-        n += k;
-    }
-    Input::Bytes(n)
-}
 
 // Room for one byte more than a record may have. The contract gives only the length, which lending the array as a slice needs.
 fn buffer() -> [u8; LONGEST_RECORD + 1]
@@ -109,7 +71,7 @@ fn print_page(bytes: &[u8]) {
 // A standard input that cannot be read gets no verdict.
 fn main() {
     let mut record = buffer();
-    match read_input(&mut record) {
+    match input::read_input(&mut record) {
         Input::Bytes(n) => print_page(&record[..n]),
         Input::Unreadable => {
             io::write_all(STDERR_FILENO, b"standard input cannot be read\n");

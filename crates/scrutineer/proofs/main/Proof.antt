@@ -1,17 +1,10 @@
 -- `scrutineer::main` is safe and ends: what was read lies in its buffer.
-use mathlib.Core.Path.{_≡_}
-use Prim.Native.Nat.{ℕ, _≤_}
 use native.Mathlib.Omega.{arith}
 use lib.ListN.{length-take}
 use borrow.Author.Needs.{needs}
-use Rattle.scrutineer.specs.declared.Input.{Input}
-use Rattle.scrutineer.specs.declared.Input.the-variants.{Bytes}
-use Rattle.scrutineer.specs.Lengths.{Read}
+use Rattle.input.proofs.Within.{within}
 use Rattle.scrutineer.proofs.main.Statement.{statement}
 use Rattle.scrutineer.proofs.main.Tie as tie
-
-within : {x : Input} {n long : ℕ} → x ≡ Bytes n → Read x long → n ≤ long
-within e h = rw e at h
 
 array-share-prefix-record : tie.Need-array-share-prefix-record
 array-share-prefix-record c = within (c .before .n .given .1) (c .before .before .before .before .read-input .ensures)

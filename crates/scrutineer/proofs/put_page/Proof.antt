@@ -2,7 +2,7 @@
 use mathlib.Core.Path.{sym, _∙_}
 use native.Mathlib.Omega.{arith}
 use borrow.Author.Needs.{needs}
-use Rattle.scrutineer.proofs.Pages.{too-long, accepted, refused}
+use Rattle.results.proofs.Paging.{too-long, accepted, refused}
 use Rattle.scrutineer.proofs.put_page.Statement.{statement}
 use Rattle.scrutineer.proofs.put_page.Tie as tie
 

@@ -1,4 +1,4 @@
--- `scrutineer::read_input` meets its contract: what was read so far fits, and every turn that goes on has read more.
+-- `input::read_input` meets its contract: what was read so far fits, and every turn that goes on has read more.
 use mathlib.Core.Path.{_≡_}
 use mathlib.Core.List.{List}
 use Prim.Native.Nat.{ℕ, _+_, _≤_, _-_}
@@ -6,8 +6,8 @@ use native.Mathlib.Omega.{arith}
 use lib.ListN.{length, take, drop, length-take, length-drop}
 use borrow.Author.Needs.{needs}
 use borrow.Rule.Slice.PartMut.{putMid}
-use Rattle.scrutineer.proofs.read_input.Statement.{statement}
-use Rattle.scrutineer.proofs.read_input.Tie as tie
+use Rattle.input.proofs.read_input.Statement.{statement}
+use Rattle.input.proofs.read_input.Tie as tie
 
 part-length : (l : List ℕ) (a k : ℕ) {n : ℕ} → n ≤ length (take k (drop a l)) → n ≤ length l - a
 part-length l a k h = omega (arith, length-take k (drop a l), length-drop a l)

@@ -16,7 +16,7 @@ use Rattle.protocol.specs.Results.{announcedVotes, inFront, acceptedWord, refus
 use Rattle.protocol.proofs.Faultless.{accepted-nothing}
 
 -- what was written from the start on stands in front
-front : {l out v w : List ℕ} {r : ℕ} → Went l 0 v out r → v ≡ w → (out ≡ inFront w l) × (r ≡ length w)
+pub front : {l out v w : List ℕ} {r : ℕ} → Went l 0 v out r → v ≡ w → (out ≡ inFront w l) × (r ≡ length w)
 unfolding put inFront
 front {l} {out} {v} {w} {r} h e =
     let g : Went l 0 w out r = rw e at h in
