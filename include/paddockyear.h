@@ -4,11 +4,11 @@
  *
  * SLICES. A slice is a pointer and a length; the length counts elements, not bytes. Where the length is 0 the pointer may be null. No
  * output may overlap any other slice of its call (PADDOCKYEAR_RESTRICT tells the compiler so); inputs may overlap each other, or be the
- * same. What is lent without a length (out of a hash, lanes, *mask, *place, *pairs) must be there. All is lent for the call only: no call
- * keeps a pointer, and nothing is kept from call to call. A call writes to its outputs alone, so that calls may run at the same time while
- * nobody else writes what is lent to them.
+ * same. What is lent without a length (out of a hash, lanes, *mask, *place, *pairs, *winner, *blank, *spoiled) must be there. All is lent
+ * for the call only: no call keeps a pointer, and nothing is kept from call to call. A call writes to its outputs alone, so that calls may
+ * run at the same time while nobody else writes what is lent to them.
  *
- * ANSWERS. An answer is 0, or the number of a rule of the scope document that is broken: enum paddockyear_number below. Each function says
+ * ANSWERS. An answer is 0, or the number of a rule that is broken: enum paddockyear_number below. Each function says
  * which numbers it can answer. A call that is refused has changed nothing.
  *
  * ORDER OF REFUSALS. Whatever writes (tablet, mix servers, parts, draw, election) tests its limits first (3), then the length of every
@@ -68,12 +68,13 @@ enum paddockyear_number {
     PADDOCKYEAR_RULE_BYTES_AFTER = 17,
     PADDOCKYEAR_RULE_LENGTH = 18,
     PADDOCKYEAR_RULE_PERMUTATION = 19,
+    PADDOCKYEAR_RULE_CANDIDATES = 20, /* by the runoff only */
 
     PADDOCKYEAR_POSTED_OTHERWISE = 101, /* both by receipt check and lookup only; they are no rules, and no refusals */
     PADDOCKYEAR_NOT_POSTED = 102
 };
 
-/* The scope document's sentence for a number. */
+/* The papers' sentence for a number. */
 static inline const char *paddockyear_rule(uint32_t number) {
     switch (number) {
     case PADDOCKYEAR_DONE: return "no rule is broken";
@@ -97,6 +98,7 @@ static inline const char *paddockyear_rule(uint32_t number) {
     case PADDOCKYEAR_RULE_BYTES_AFTER: return "bytes after 0B";
     case PADDOCKYEAR_RULE_LENGTH: return "a slice of another length than due";
     case PADDOCKYEAR_RULE_PERMUTATION: return "a permutation that is none";
+    case PADDOCKYEAR_RULE_CANDIDATES: return "the number of candidates outside 1 to 9";
     case PADDOCKYEAR_POSTED_OTHERWISE: return "posted otherwise (the id is there, the hash differs)";
     case PADDOCKYEAR_NOT_POSTED: return "not posted (no such id)";
     default: return "no number that is answered";
@@ -108,6 +110,7 @@ static inline const char *paddockyear_rule(uint32_t number) {
 enum {
     PADDOCKYEAR_MOST_BALLOTS = 1024,
     PADDOCKYEAR_MOST_COMPARED = 12,
+    PADDOCKYEAR_MOST_CANDIDATES = 9,
     PADDOCKYEAR_DICE_LENGTH = 30,
     PADDOCKYEAR_BALLOT_KEYS_LENGTH = 192, /* six keys of 32 bytes */
     PADDOCKYEAR_COMMAND_LENGTH = 197,     /* of a ballot command */
@@ -384,6 +387,28 @@ uint32_t paddockyear_announced_votes(const uint8_t *bytes, size_t length, uint32
  * Answers 0; 18; 15 where a vote is below the one before. */
 uint32_t paddockyear_tally(const uint32_t *votes, size_t votes_length, uint32_t *PADDOCKYEAR_RESTRICT values, size_t values_length,
                            uint64_t *PADDOCKYEAR_RESTRICT counts, size_t counts_length, uint64_t *PADDOCKYEAR_RESTRICT pairs);
+
+/* ---- Ranked votes by instant runoff ----------------------------------------------------------------------------------------------- */
+
+/* A candidate's entry in the table of a runoff. Candidate k, from 1, stands at k - 1. */
+struct paddockyear_candidate {
+    uint64_t count; /* how many votes counted for the candidate in the last round in which it stood */
+    uint32_t left;  /* the round in which it left, from 1, or 0 if it is still standing */
+};
+
+/* A vote's decimal digits, from the left, are candidates in the order of preference: 312 is 3, then 1, then 2. Vote 0 is blank. A vote with
+ * a digit that is 0, above the number of candidates or repeated is spoiled. In each round a vote counts for its first candidate still
+ * standing; one whose candidates have all left counts no more. A candidate with more than half of the counting votes wins; else the one
+ * standing with fewest leaves, of equals the highest number. There are at most as many rounds as candidates, and there is no winner exactly
+ * if no vote is valid.
+ *
+ * The votes may be any number of votes in any order: the answer depends on how often each stands there, and on nothing else. table has one
+ * entry for each candidate. *winner is the winner's number, or 0 for none; *blank and *spoiled are how many votes are blank and spoiled.
+ * Answers 0; 20 for candidates outside 1 to 9; 18 for the length of table. */
+uint32_t paddockyear_runoff(const uint32_t *votes, size_t votes_length, uint32_t candidates,
+                            struct paddockyear_candidate *PADDOCKYEAR_RESTRICT table, size_t table_length,
+                            uint32_t *PADDOCKYEAR_RESTRICT winner, uint64_t *PADDOCKYEAR_RESTRICT blank,
+                            uint64_t *PADDOCKYEAR_RESTRICT spoiled);
 
 #ifdef __cplusplus
 }

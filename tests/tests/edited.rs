@@ -1,9 +1,11 @@
 //! Calls of public functions as no face makes them, so that their edits are tried on these too, and
-//! short ones of the runoff; with the feature `edited`. The program alone calls `put_result`.
+//! short ones of the runoff; with the feature `edited`. Programs alone call `put_result`,
+//! `put_refused` and `put_lines`.
 
 use paddockyear_tests::boards::inputs;
 use paddockyear_tests::boards::samples::files;
 use paddockyear_tests::edited::protocol::{Verdict, Written};
+use paddockyear_tests::edited::runoff as edited_runoff;
 use paddockyear_tests::edited::{disclosure, results, verifier, wire};
 use paddockyear_tests::random::Random;
 use paddockyear_tests::reference::runoff::Candidate;
@@ -24,6 +26,32 @@ fn lines_of_the_tally() {
     let end = results::page::put_result(&board, &mut out, 5);
     assert_eq!(&out[5..end], b"1 3\n34 2\n51 1\n86 2\n");
     assert!(out[..5].iter().chain(&out[end..]).all(|byte| *byte == 0));
+}
+
+#[test]
+fn page_of_a_refusal() {
+    for number in [1, 17, 20] {
+        let mut out = vec![0u8; 19];
+        let end = results::page::put_refused(number, &mut out);
+        assert_eq!(String::from_utf8_lossy(&out[..end]), format!("REFUSED {number}\n"));
+    }
+}
+
+/// Three rounds with a tie for last, and an election that nobody wins.
+#[test]
+fn lines_of_the_runoff() {
+    let lines = |votes: &[u32], candidates| {
+        let mut out = vec![0u8; 5 + 13 * 144];
+        let end = edited_runoff::page::put_lines(votes, candidates, &mut out, 5);
+        assert!(out[..5].iter().chain(&out[end..]).all(|byte| *byte == 0));
+        String::from_utf8(out[5..end].to_vec()).unwrap()
+    };
+    let votes = [0, 1, 1, 1, 2, 2, 32, 34, 42, 42, 42, 102];
+    let due = "ROUND\t#1\t#2\t#3\t#4\tLEAVES\n1\t3\t2\t2\t3\t#3\n2\t3\t3\t-\t4\t#2\n\
+               3\t3\t-\t-\t4\t-\nWINNER\t#4\nBLANK\t1\nSPOILED\t1\n";
+    assert_eq!(lines(&votes, 4), due);
+    let due = "ROUND\t#1\tLEAVES\n1\t0\t-\nWINNER\tNONE\nBLANK\t1\nSPOILED\t2\n";
+    assert_eq!(lines(&[0, 2, 11], 1), due);
 }
 
 /// A record that ends with the second dice, and other first dice than those that the mask was drawn

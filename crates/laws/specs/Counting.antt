@@ -58,6 +58,17 @@ unfolding howMany
 many-split t u w [] h = refl
 many-split t u w (x ∷ xs) h = omega (arith, h x, many-split t u w xs h)
 
+-- where it holds at most as often as the two others together, and where the two others hold together at most as often
+pub many-within : (t u w : ℕ → Bool) (xs : List ℕ) → ((x : ℕ) → oneIf (t x) ≤ oneIf (u x) + oneIf (w x)) → howMany t xs ≤ howMany u xs + howMany w xs
+unfolding howMany
+many-within t u w [] h = omega arith
+many-within t u w (x ∷ xs) h = omega (arith, h x, many-within t u w xs h)
+
+pub many-both : (u w t : ℕ → Bool) (xs : List ℕ) → ((x : ℕ) → oneIf (u x) + oneIf (w x) ≤ oneIf (t x)) → howMany u xs + howMany w xs ≤ howMany t xs
+unfolding howMany
+many-both u w t [] h = omega arith
+many-both u w t (x ∷ xs) h = omega (arith, h x, many-both u w t xs h)
+
 -- a test that every number meets counts them all
 pub many-all : (t : ℕ → Bool) (xs : List ℕ) → ((x : ℕ) → t x ≡ true) → howMany t xs ≡ length xs
 unfolding howMany

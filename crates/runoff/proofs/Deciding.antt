@@ -118,6 +118,12 @@ module _ (left : List ℕ) (count : ℕ → ℕ) where
   fewest-is zero = inr (record { none = refl; gone = λ j a b. absurd (omega arith) })
   fewest-is (suc n) = step n (fewestAmong left count n) (fewest-is n)
 
+-- it is one only
+pub leaves-one : {left : List ℕ} {count : ℕ → ℕ} {n j k : ℕ} → Leaves left count n j → Leaves left count n k → j ≡ k
+leaves-one {left} {count} {n} {j} {k} a b =
+    let e : count j ≡ count k = omega (arith, a .fewest k (b .from) (b .to) (b .stands), b .fewest j (a .from) (a .to) (a .stands)) in
+    omega (arith, a .highest k (b .from) (b .to) (b .stands) (sym e), b .highest j (a .from) (a .to) (a .stands) e)
+
 -- ---- a vote that counts counts for a candidate who stands
 
 module _ (candidates : ℕ) (left : List ℕ) where

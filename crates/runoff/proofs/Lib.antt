@@ -1,9 +1,16 @@
--- What the proofs of several functions use.
+-- What the proofs of several functions use; then what the definitions mean.
 mod Outcomes
 mod Rankings
 mod Filled
 mod Table
 mod Tallying
-mod Deciding
+pub mod Deciding
 mod Onward
 mod Running
+mod Lines
+pub mod Reading
+pub mod Leaving
+pub mod Ending
+pub mod Adding
+pub mod Multiset
+pub mod Samples

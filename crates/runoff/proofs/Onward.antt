@@ -40,7 +40,7 @@ module _ (f g : ℕ → ℕ) where
 
 -- ---- a round from the counts
 
-standings-same : {a b l m : List ℕ} {v w r : ℕ} {o p : Bool} → a ≡ b → l ≡ m → v ≡ w → o ≡ p
+pub standings-same : {a b l m : List ℕ} {v w r : ℕ} {o p : Bool} → a ≡ b → l ≡ m → v ≡ w → o ≡ p
     → _≡_ {A = Standings} (record { counts = a; left = l; rounds = r; winner = v; over = o }) (record { counts = b; left = m; rounds = r; winner = w; over = p })
 standings-same e f g h = rw (e, f, g, h)
 

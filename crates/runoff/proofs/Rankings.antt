@@ -62,7 +62,7 @@ ranks-end candidates [] lower h = h
 ranks-end candidates (k ∷ ks) lower h = ranks-end candidates ks lower (and-iff _ _ .0 (and-iff _ _ .0 h .1) .1)
 
 module _ (candidates : ℕ) (left : List ℕ) (vote : ℕ) where
-  zero-invalid : valid candidates 0 ≡ false
+  pub zero-invalid : valid candidates 0 ≡ false
   unfolding valid ranks
   zero-invalid = rw (ranking-one 0 (omega arith)) (sym (and-stop _ _ (sym (and-stop _ _ (not-atMost (omega arith))))))
 

@@ -215,7 +215,7 @@ fn is_decided(all: u64, winner: usize) -> bool
 }
 
 // One round more.
-pub fn next(votes: &[u32], candidates: usize, s: Standings) -> Standings
+pub(crate) fn next(votes: &[u32], candidates: usize, s: Standings) -> Standings
     requires { ⌜ (candidates ≤ 9) × (s .rounds ≤ 9) ⌝ }
     ensures { λ r. ⌜ r ≡ definitions.next candidates (before votes) s ⌝ }
 {
@@ -248,7 +248,7 @@ pub fn next(votes: &[u32], candidates: usize, s: Standings) -> Standings
 // ---- the rounds
 
 // Before the first round.
-pub fn start() -> Standings
+pub(crate) fn start() -> Standings
     ensures { λ r. ⌜ r ≡ definitions.start ⌝ }
 {
     Standings {
@@ -302,7 +302,7 @@ fn is_spoiled(vote: u32, candidates: usize) -> bool
 }
 
 // How many votes are blank.
-pub fn blank_votes(votes: &[u32]) -> u64
+pub(crate) fn blank_votes(votes: &[u32]) -> u64
     ensures { λ r. ⌜ r ≡ definitions.blankVotes (before votes) ⌝ }
 {
     let mut blank: u64 = 0;
@@ -315,7 +315,7 @@ pub fn blank_votes(votes: &[u32]) -> u64
 }
 
 // How many votes are spoiled.
-pub fn spoiled_votes(votes: &[u32], candidates: usize) -> u64
+pub(crate) fn spoiled_votes(votes: &[u32], candidates: usize) -> u64
     requires { ⌜ candidates ≤ 9 ⌝ }
     ensures { λ r. ⌜ r ≡ definitions.spoiledVotes candidates (before votes) ⌝ }
 {

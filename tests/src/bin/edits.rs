@@ -95,12 +95,14 @@ fn trials(library: &Library) -> Vec<Trial> {
     all.filter_map(trial).collect()
 }
 
-/// The code in Rust with all edits, and what tells this text from others.
+/// The code in Rust with all edits, and what tells this text from others. What calls the C library
+/// is left out, as programs are.
 fn translation() -> Result<(String, String), String> {
     let all = listed().into_iter();
     let libraries: Vec<Library> = all
         .map(|(name, leans_on)| Library { sources: sources(&name), name, leans_on })
         .filter(|library| library.sources.files.contains_key("src/lib.rt"))
+        .filter(|library| !library.leans_on.iter().any(|other| other == "libc"))
         .collect();
     let trials: Vec<Trial> = libraries.iter().flat_map(trials).collect();
     let text = translated(&libraries, &trials)?;
