@@ -8,6 +8,7 @@ pub mod Deciding
 mod Onward
 mod Running
 mod Lines
+mod RoundLines
 pub mod Reading
 pub mod Leaving
 pub mod Ending
