@@ -6,7 +6,7 @@ mod Table
 mod Tallying
 pub mod Deciding
 mod Onward
-mod Running
+pub mod Running
 mod Lines
 mod RoundLines
 pub mod Reading

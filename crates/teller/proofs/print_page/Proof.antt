@@ -1,43 +1,32 @@
+-- `teller::print_page` is safe and ends: the page lies in its buffer.
+use Prim.Native.Nat.{_≤_}
+use native.Mathlib.Omega.{arith}
+use lib.ListN.{length, length-take}
 use borrow.Author.Needs.{needs}
+use Rattle.runoff.specs.Page.{runoffPage}
+use Rattle.results.proofs.Lines.{front-length}
 use Rattle.teller.proofs.print_page.Statement.{statement}
 use Rattle.teller.proofs.print_page.Tie as tie
-use Rattle.teller.proofs.print_page.Reads as reads
-use Rattle.teller.proofs.print_page.Lts as lts
-use Rattle.io.proofs.write_all.Reads as write-all-reads
-use Rattle.teller.proofs.blank_page.Reads as blank-page-reads
-use Rattle.teller.proofs.put_page.Reads as put-page-reads
 
--- src/main.rt:140:20
-blank-page-requires : tie.Need-blank-page-requires
-blank-page-requires c κs = search needs
+within : (c : tie.After-put-page) → c .put-page .result ≤ length (c .put-page .last .1 .1 .0)
+within c =
+    let made = c .before .before in
+    let bytes = made .before .before .args .bytes .now in
+    omega (arith, front-length (runoffPage (made .before .before .args .candidates) bytes) (made .blank-page .result) (c .put-page .ensures .0), c .put-page .ensures .1)
 
--- src/main.rt:141:9
-put-page-requires : tie.Need-put-page-requires
-put-page-requires c κs = search needs
-
--- src/main.rt:142:34
 array-share-prefix-page : tie.Need-array-share-prefix-page
-array-share-prefix-page c = ?
+array-share-prefix-page c = within c
 
--- src/main.rt:142:34
 slice-aggregate-write-all : tie.Need-slice-aggregate-write-all
-slice-aggregate-write-all c = ?
-
--- src/main.rt:142:5
-write-all-requires : tie.Need-write-all-requires
-write-all-requires c κs = search needs
-
--- src/main.rt:139:1
-returns : tie.Need-returns
-returns c = search needs
+slice-aggregate-write-all c = simp length-take (omega (arith, within (c .before)))
 
 pub print-page-spec : {M : Type 1} → statement M
 print-page-spec =
     tie.close
     (tie.spec
-    blank-page-requires
-    put-page-requires
+    (λ c κs. search needs)
+    (λ c κs. search needs)
     array-share-prefix-page
     slice-aggregate-write-all
-    write-all-requires
-    returns)
+    (λ c κs. search needs)
+    (λ c. search needs))

@@ -1,70 +1,64 @@
+-- `teller::put_counted` meets its contract: a refused number of candidates, or the rounds of an accepted record, which has at most 1,024 ballots.
+use Prim.Native.Nat.{_≤_}
+use native.Mathlib.Omega.{arith}
 use borrow.Author.Needs.{needs}
+use lib.ListN.{length-take}
+use Rattle.laws.specs.Writing.{go-same}
+use Rattle.protocol.specs.Terms.{mostBallots}
+use Rattle.results.proofs.Reaching.{accepted-whole, accepted-few, votes-ready}
+use Rattle.runoff.proofs.Running.{fitting}
+use Rattle.teller.proofs.Paged.{counted-refused, counted-lines}
 use Rattle.teller.proofs.put_counted.Statement.{statement}
 use Rattle.teller.proofs.put_counted.Tie as tie
-use Rattle.teller.proofs.put_counted.Reads as reads
-use Rattle.teller.proofs.put_counted.Lts as lts
-use Rattle.layout.proofs.parameters.Reads as parameters-reads
-use Rattle.results.proofs.page.put_refused.Reads as put-refused-reads
-use Rattle.runoff.proofs.refuse.Reads as refuse-reads
-use Rattle.teller.proofs.numbers.Reads as numbers-reads
-use Rattle.teller.proofs.put_votes.Reads as put-votes-reads
 
--- src/main.rt:58:9
-refuse-requires : tie.Need-refuse-requires
-refuse-requires c κs = search needs
-
--- src/main.rt:60:9
-put-refused-requires : tie.Need-put-refused-requires
-put-refused-requires c κs = search needs
-
--- src/main.rt:60:9
-same-length : tie.Need-same-length
-same-length c = search needs
-
--- src/main.rt:60:9
 returns : tie.Need-returns
-returns c = ?
+returns c =
+    let wrote = c .before .before in
+    let branch = wrote .before .before in
+    go-same (wrote .put-refused .ensures) (counted-refused _ _ (branch .before .refuse .ensures) (branch .if1 .taken))
 
--- src/main.rt:62:9
 parameters-requires : tie.Need-parameters-requires
-parameters-requires c κs = ?
+parameters-requires c κs = accepted-whole _ _ (c .before .before .before .before .pre .0)
 
--- src/main.rt:64:21
-numbers-requires : tie.Need-numbers-requires
-numbers-requires c κs = search needs
+-- the number of ballots is within its limit
+few : (c : tie.After-parameters) → c .parameters .result .ballots ≤ mostBallots
+few c = rw (c .parameters .ensures) (accepted-few _ _ (c .before .before .before .before .before .pre .0))
 
--- src/main.rt:65:37
 array-borrow-prefix-votes : tie.Need-array-borrow-prefix-votes
-array-borrow-prefix-votes c = ?
+array-borrow-prefix-votes c = omega (arith, few (c .before))
 
--- src/main.rt:65:37
 slice-aggregate-put-votes : tie.Need-slice-aggregate-put-votes
-slice-aggregate-put-votes c = ?
+slice-aggregate-put-votes c = simp length-take (omega (arith, few (c .before .before)))
 
--- src/main.rt:65:5
 put-votes-requires : tie.Need-put-votes-requires
-put-votes-requires c κs = ?
+put-votes-requires c κs =
+    let asked = c .before .before .before in
+    let branch = asked .before in
+    let s = branch .before .before .before .before in
+    record {
+      votes = votes-ready _ _ (s .pre .0) (asked .parameters .ensures) (simp length-take (omega (arith, few asked)));
+      few = fitting _ _ (branch .before .refuse .ensures) (omega arith) .0;
+      room = s .pre .1;
+    }
 
--- src/main.rt:54:1
-same-length-2 : tie.Need-same-length-2
-same-length-2 c = search needs
-
--- src/main.rt:54:1
 returns-2 : tie.Need-returns-2
-returns-2 c = ?
+returns-2 c =
+    let wrote = c .before .before .before in
+    let branch = wrote .before .before .before .before .before in
+    go-same (wrote .put-votes .ensures) (counted-lines _ _ (branch .before .refuse .ensures) (omega arith))
 
 pub put-counted-spec : {M : Type 1} → statement M
 put-counted-spec =
     tie.close
     (tie.spec
-    refuse-requires
-    put-refused-requires
-    same-length
+    (λ c κs. search needs)
+    (λ c κs. search needs)
+    (λ c. search needs)
     returns
     parameters-requires
-    numbers-requires
+    (λ c κs. search needs)
     array-borrow-prefix-votes
     slice-aggregate-put-votes
     put-votes-requires
-    same-length-2
+    (λ c. search needs)
     returns-2)

@@ -1,64 +1,38 @@
+-- `teller::put_page` meets its contract: the length is tested first, and then the first fault, judged as drawn.
+use mathlib.Core.Path.{sym, _∙_}
+use native.Mathlib.Omega.{arith}
 use borrow.Author.Needs.{needs}
+use Rattle.teller.proofs.Paged.{too-long, counted, refused}
 use Rattle.teller.proofs.put_page.Statement.{statement}
 use Rattle.teller.proofs.put_page.Tie as tie
-use Rattle.teller.proofs.put_page.Reads as reads
-use Rattle.teller.proofs.put_page.Lts as lts
-use Rattle.results.proofs.page.put_refused.Reads as put-refused-reads
-use Rattle.teller.proofs.put_counted.Reads as put-counted-reads
-use Rattle.verifier.proofs.first_fault.Reads as first-fault-reads
-use Rattle.wire.proofs.copy.Reads as copy-reads
 
--- src/main.rt:74:35
-slice-aggregate-copy : tie.Need-slice-aggregate-copy
-slice-aggregate-copy c = search needs
-
--- src/main.rt:74:9
-copy-requires : tie.Need-copy-requires
-copy-requires c κs = search needs
-
--- src/main.rt:74:9
 returns : tie.Need-returns
-returns c = ?
+returns c = too-long _ _ (c .before .before .before .if1 .taken) (c .copy .ensures)
 
--- src/main.rt:76:11
-first-fault-requires : tie.Need-first-fault-requires
-first-fault-requires c κs = search needs
-
--- src/main.rt:77:58
-enum-told : tie.Need-enum-told
-enum-told c = search needs
-
--- src/main.rt:77:27
 put-counted-requires : tie.Need-put-counted-requires
-put-counted-requires c κs = ?
+put-counted-requires c κs = (sym (c .before .before .before .first-fault .ensures) ∙ c .before .enum-told .given .1, search needs)
 
--- src/main.rt:78:22
-enum-known-number : tie.Need-enum-known-number
-enum-known-number c = search needs
-
--- src/main.rt:78:36
-put-refused-requires : tie.Need-put-refused-requires
-put-refused-requires c κs = search needs
-
--- src/main.rt:69:1
 returns-2 : tie.Need-returns-2
-returns-2 c = ?
+returns-2 c =
+    let found = c .before .before .before .before in
+    counted _ _ (omega arith) (sym (found .first-fault .ensures) ∙ c .before .before .enum-told .given .1) (c .put-counted .ensures)
 
--- src/main.rt:69:1
 returns-3 : tie.Need-returns-3
-returns-3 c = ?
+returns-3 c =
+    let found = c .before .before .before .before .before in
+    refused _ _ _ (omega arith) (sym (found .first-fault .ensures) ∙ c .before .before .before .number .given .1) (c .put-refused .ensures)
 
 pub put-page-spec : {M : Type 1} → statement M
 put-page-spec =
     tie.close
     (tie.spec
-    slice-aggregate-copy
-    copy-requires
+    (λ c. search needs)
+    (λ c κs. search needs)
     returns
-    first-fault-requires
-    enum-told
+    (λ c κs. search needs)
+    (λ c. search needs)
     put-counted-requires
-    enum-known-number
-    put-refused-requires
+    (λ c. search needs)
+    (λ c κs. search needs)
     returns-2
     returns-3)

@@ -1,66 +1,40 @@
+-- `teller::said` meets its contract: what is left of the argument, behind the number read so far, says what the whole says.
+use Prim.Native.Nat.{_-_}
+use native.Mathlib.Omega.{arith}
+use borrow.Author.Needs.{needs}
+use lib.ListN.{length}
+use Rattle.teller.proofs.Reading.{Said, empty-says, none-said, low-says, high-says, one-said, all-said}
 use Rattle.teller.proofs.said.Statement.{statement}
 use Rattle.teller.proofs.said.Tie as tie
-use Rattle.teller.proofs.said.Reads as reads
-use Rattle.teller.proofs.said.Lts as lts
-use Rattle.teller.proofs.at_most_ten.Reads as at-most-ten-reads
 
 abbrev Inv-loop : tie.InvT-loop
-Inv-loop argument number₀ i₀ number i = ?
+Inv-loop argument number₀ i₀ number i = Said argument i number
 
 abbrev μ-loop : tie.MeasureT-loop
-μ-loop argument number₀ i₀ number i = ?
+μ-loop argument number₀ i₀ number i = length argument - i
 
--- src/main.rt:104:9
 returns : tie.Need-returns Inv-loop μ-loop
-returns c = ?
+returns c = empty-says _ (omega arith)
 
--- src/main.rt:108:5
 loop-holds : tie.Need-loop-holds Inv-loop μ-loop
-loop-holds c = ?
+loop-holds c = none-said _ (omega arith)
 
--- src/main.rt:109:25
-shared-slice-read-character : tie.Need-shared-slice-read-character Inv-loop μ-loop
-shared-slice-read-character c = ?
-
--- src/main.rt:109:25
 cast-character : tie.Need-cast-character Inv-loop μ-loop
-cast-character c = ?
+cast-character c = omega (arith, c .shared-slice-known2 .given (c .before .before .loop .i))
 
--- src/main.rt:111:13
 returns-2 : tie.Need-returns-2 Inv-loop μ-loop
-returns-2 c = ?
+returns-2 c = low-says _ (c .before .before .before .loop .inv) (omega arith) (c .if2 .taken)
 
--- src/main.rt:114:13
 returns-3 : tie.Need-returns-3 Inv-loop μ-loop
-returns-3 c = ?
+returns-3 c = high-says _ (c .before .before .before .before .loop .inv) (omega arith) (c .if3 .taken)
 
--- src/main.rt:116:30
-mul-at-most-ten : tie.Need-mul-at-most-ten Inv-loop μ-loop
-mul-at-most-ten c = ?
-
--- src/main.rt:116:30
-add-at-most-ten : tie.Need-add-at-most-ten Inv-loop μ-loop
-add-at-most-ten c = ?
-
--- src/main.rt:116:9
-at-most-ten-requires : tie.Need-at-most-ten-requires Inv-loop μ-loop
-at-most-ten-requires c κs = ?
-
--- src/main.rt:117:9
-add-i : tie.Need-add-i Inv-loop μ-loop
-add-i c = ?
-
--- src/main.rt:108:5
-loop-less : tie.Need-loop-less Inv-loop μ-loop
-loop-less c = ?
-
--- src/main.rt:108:5
 loop-again : tie.Need-loop-again Inv-loop μ-loop
-loop-again c = ?
+loop-again c =
+    let at = c .before .before .before .before .before in
+    one-said _ (at .loop .inv) (omega arith) (c .before .before .if2 .left) (c .before .if3 .left) _ (c .at-most-ten .ensures)
 
--- src/main.rt:100:1
 returns-4 : tie.Need-returns-4 Inv-loop μ-loop
-returns-4 c = ?
+returns-4 c = all-said _ (c .before .loop .inv) (omega arith)
 
 pub said-spec : {M : Type 1} → statement M
 said-spec =
@@ -70,14 +44,14 @@ said-spec =
     μ-loop
     returns
     loop-holds
-    shared-slice-read-character
+    (λ c. omega arith)
     cast-character
     returns-2
     returns-3
-    mul-at-most-ten
-    add-at-most-ten
-    at-most-ten-requires
-    add-i
-    loop-less
+    (λ c. omega arith)
+    (λ c. omega arith)
+    (λ c κs. search needs)
+    (λ c. omega arith)
+    (λ c. omega arith)
     loop-again
     returns-4)
