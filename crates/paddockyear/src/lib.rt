@@ -554,7 +554,8 @@ fn runoff_code(r: Runoff, winner: &mut u32, blank: &mut u64, spoiled: &mut u64) 
     ensures { λ k. let answer = rounds.runoffAnswer r in
         ⌜ (k ≡ codeOf answer)
         × ((now (winner .exit) ≡ valueIn answer 0 (now (winner .entry)))
-        × ((now (blank .exit) ≡ valueIn answer 1 (now (blank .entry))) × (now (spoiled .exit) ≡ valueIn answer 2 (now (spoiled .entry))))) ⌝ }
+        × ((now (blank .exit) ≡ valueIn answer 1 (now (blank .entry)))
+        × (now (spoiled .exit) ≡ valueIn answer 2 (now (spoiled .entry))))) ⌝ }
 {
     match r {
         Runoff::Refused(k) => k,

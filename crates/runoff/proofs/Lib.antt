@@ -15,3 +15,4 @@ pub mod Ending
 pub mod Adding
 pub mod Multiset
 pub mod Samples
+pub mod SamplePages

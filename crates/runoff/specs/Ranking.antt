@@ -27,8 +27,7 @@ blank vote = equal vote 0
 unfoldable pub spoiled : ℕ → ℕ → Bool
 spoiled candidates vote = differ vote 0 and not (valid candidates vote)
 
--- ---- whom it counts for, those being left who are "still standing": of each candidate, k at k - 1, the round of leaving, "or 0 if still
--- standing"
+-- ---- whom it counts for: `left` has of each candidate, k at k - 1, the round of leaving, "or 0 if still standing"
 
 unfoldable pub standing : List ℕ → ℕ → Bool
 standing left k = equal (item left (k - 1)) 0

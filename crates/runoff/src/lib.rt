@@ -1,10 +1,9 @@
 // Ranked votes by instant runoff.
 pub mod page;
 
-ghost use mathlib.Core.Bool.{true};
 ghost use mathlib.Core.List.{_++_};
 ghost use mathlib.Core.Path.{_≡_};
-ghost use Prim.Native.Nat.{suc, _-_, _≤_};
+ghost use Prim.Native.Nat.{_-_, _≤_};
 ghost use lib.ListN.{length, take, drop, set};
 ghost use Rattle.laws.specs.Lent.{before};
 ghost use Rattle.laws.specs.Sums.{oneIf};
