@@ -1,20 +1,19 @@
 -- What the outcome of a round means: the winner is whoever has more than half, and who leaves has fewest, of equals the highest number.
-use mathlib.Core.Path.{_≡_, refl, sym, ap, _∙_}
+use mathlib.Core.Path.{_≡_, refl, sym, _∙_}
 use mathlib.Core.Logic.{_≢_, _⊎_, inl, inr}
 use mathlib.Core.Bool.{Bool, true, false, not}
 use mathlib.Core.List.{List, [], _∷_}
-use Prim.Native.Nat.{ℕ, zero, suc, _+_, _-_, _*_, _≤_, _<_}
+use Prim.Native.Nat.{ℕ, zero, suc, _+_, _*_, _≤_, _<_}
 use native.Mathlib.Decide.{ℕ-discrete, decLe}
 use native.Mathlib.Nat.{le-refl}
 use native.Mathlib.Omega.{arith}
 use lib.Dec.{eqb}
 use lib.ListN.{length}
-use Rattle.laws.specs.Tests.{pick, equal, differ, below, atMost, _and_, _or_, never, is-equal, not-equal, is-below, not-below, is-atMost, not-atMost, below-iff, below-fails, equal-iff, differ-iff, and-iff, atMost-iff, and-go, and-stop, or-go, or-stop}
+use Rattle.laws.specs.Tests.{pick, equal, differ, below, atMost, _and_, _or_, never, is-equal, not-equal, is-atMost, not-atMost, below-iff, below-fails, differ-iff, and-iff, atMost-iff, and-go, and-stop, or-go, or-stop}
 use Rattle.laws.specs.Sums.{oneIf}
-use Rattle.laws.specs.Counting.{howMany, many-some, many-split, many-all}
+use Rattle.laws.specs.Counting.{many-some, many-split, many-all}
 use Rattle.runoff.specs.Ranking.{ranking, ranks, valid, standing, firstStanding, countsFor}
 use Rattle.runoff.specs.Rounds.{winnerAmong, fewer, fewestAmong, support, counting}
-use Rattle.runoff.proofs.Outcomes.{picked, unpicked}
 
 -- ---- who wins
 

@@ -7,13 +7,13 @@ use Prim.Native.Nat.{ℕ, zero, suc, _+_, _-_, _*_, _≤_, _<_}
 use native.Mathlib.Nat.{le-refl}
 use native.Mathlib.Omega.{arith}
 use lib.ListN.{length, set}
-use Rattle.laws.specs.Tests.{pick, below, equal, differ, _or_, never, or-fails, unequal-iff, differ-fails}
+use Rattle.laws.specs.Tests.{pick, below, equal, differ, _or_, or-fails, unequal-iff, differ-fails}
 use Rattle.laws.specs.Tables.{tabulate, get-tabulate, same-tabulate}
 use Rattle.protocol.specs.Terms.{item}
 use Rattle.runoff.specs.Ranking.{standing}
-use Rattle.runoff.specs.Rounds.{winnerAmong, fewer, fewestAmong, lastCounts, support, counting, roundWinner, decided, leftAfter, start, next, onward, result}
+use Rattle.runoff.specs.Rounds.{winnerAmong, fewestAmong, lastCounts, support, counting, roundWinner, decided, leftAfter, start, next, onward, result}
 use Rattle.runoff.specs.declared.Standings.{Standings}
-use Rattle.runoff.proofs.Deciding.{counting-with, Leaves, leaves-some}
+use Rattle.runoff.proofs.Deciding.{counting-with, leaves-some}
 use Rattle.runoff.proofs.Outcomes.{picked, unpicked, fewer-same, fewest-within}
 
 -- ---- counts that are the same give the same outcome

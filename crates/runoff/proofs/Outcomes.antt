@@ -1,13 +1,13 @@
 -- A round's outcome step by step: the winner, and who leaves.
-use mathlib.Core.Path.{_≡_, refl, sym, ap, ap₂, _∙_}
+use mathlib.Core.Path.{_≡_, sym, ap, ap₂, _∙_}
 use mathlib.Core.Logic.{_≢_}
 use mathlib.Core.Bool.{Bool, true, false}
 use mathlib.Core.List.{List}
-use Prim.Native.Nat.{ℕ, zero, suc, _+_, _-_, _*_, _/_, _≤_, _<_}
+use Prim.Native.Nat.{ℕ, zero, suc, _+_, _-_, _/_, _≤_, _<_}
 use native.Mathlib.Decide.{ℕ-discrete}
 use native.Mathlib.Numerals.{add-one}
 use native.Mathlib.Omega.{arith}
-use Rattle.laws.specs.Tests.{pick, equal, atMost, _and_, _or_, below, is-equal, not-equal, is-below, not-below, is-atMost, not-atMost, and-go, and-stop, or-go, or-stop}
+use Rattle.laws.specs.Tests.{pick, equal, atMost, _and_, _or_, is-equal, not-equal, is-below, not-below, is-atMost, not-atMost, and-go, and-stop, or-go, or-stop}
 use Rattle.protocol.specs.Terms.{item}
 use Rattle.runoff.specs.Ranking.{standing}
 use Rattle.runoff.specs.Rounds.{winnerAmong, fewer, fewestAmong}

@@ -1,18 +1,17 @@
 -- A vote's digits read from the right: what is read so far is the end of its ranking.
-use mathlib.Core.Path.{_≡_, refl, sym, ap, ap₂, _∙_}
+use mathlib.Core.Path.{_≡_, refl, sym, ap, _∙_}
 use mathlib.Core.Logic.{_≢_, _⊎_, inl, inr}
 use mathlib.Core.Bool.{Bool, true, false, not}
 use mathlib.Core.List.{List, [], _∷_, _++_, map, map-append, append-assoc, append-nil}
-use Prim.Native.Nat.{ℕ, zero, suc, _+_, _-_, _*_, _/_, _%_, _≤_, _<_}
+use Prim.Native.Nat.{ℕ, _+_, _-_, _/_, _%_, _≤_, _<_}
 use native.Mathlib.Decide.{ℕ-discrete, decLe}
 use native.Mathlib.Omega.{arith}
 use lib.ListN.{length, getD, set, replicate, getD-replicate, length-set}
 use lib.Seq.{getD-set-same, getD-set-other}
 use lib.Dec.{eqb}
 use borrow.Author.Tests.{eq-eqb, ne-eqb}
-use Rattle.laws.specs.Tests.{pick, equal, differ, atMost, below, _and_, never, refuted, and-iff, atMost-iff, and-go, and-stop, and-last-stop, is-equal, not-equal, is-differ, not-differ, is-atMost, not-atMost, differ-iff, differ-fails}
-use Rattle.laws.specs.Bytes.{bytes}
-use Rattle.laws.specs.Sorting.{count, is, is-self, is-cases}
+use Rattle.laws.specs.Tests.{pick, equal, differ, below, _and_, never, refuted, and-iff, atMost-iff, and-go, and-stop, and-last-stop, is-equal, not-equal, is-differ, not-differ, is-atMost, not-atMost, differ-iff, differ-fails}
+use Rattle.laws.specs.Sorting.{count, is, is-cases}
 use Rattle.protocol.specs.Terms.{digits, decimal}
 use Rattle.decimals.proofs.Digits.{one-byte, decimal-one, decimal-more}
 use Rattle.runoff.specs.Ranking.{ranking, ranks, valid, spoiled, firstStanding, countsFor, standing}

@@ -1,14 +1,14 @@
 -- What the runoff answers and fills, where it refuses and where it does not.
 use mathlib.Core.Path.{_≡_, refl, sym, ap, ap₂, _∙_}
 use mathlib.Core.Logic.{_≢_}
-use mathlib.Core.List.{List, [], _∷_, _++_, append-nil}
+use mathlib.Core.List.{List, _++_, append-nil}
 use Prim.Native.Nat.{ℕ, zero, suc, _≤_}
 use native.Mathlib.Omega.{arith}
 use lib.ListN.{length, take, drop}
 use lib.Seq.{drop-length}
-use Rattle.laws.specs.Tests.{choose, choose-clear, choose-set}
+use Rattle.laws.specs.Tests.{choose-clear, choose-set}
 use Rattle.laws.specs.Faults.{rules}
-use Rattle.protocol.specs.Answers.{Answer, done, refused, answerOf}
+use Rattle.protocol.specs.Answers.{done, refused, answerOf}
 use Rattle.runoff.specs.Rounds.{runoffRefusal, result, entries, table, winner, blankVotes, spoiledVotes, ranOff, tableAfter}
 use Rattle.runoff.specs.Told.{Ran}
 use Rattle.runoff.specs.declared.Candidate.{Candidate}

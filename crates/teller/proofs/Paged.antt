@@ -7,7 +7,7 @@ use Prim.Native.Nat.{ℕ, _≤_, _<_}
 use lib.ListN.{length}
 use Rattle.laws.specs.declared.Found.the-variants.{Nothing, Fault}
 use Rattle.laws.specs.Faults.{numberOf, nothing-fault}
-use Rattle.laws.specs.Tests.{pick, equal, atMost, _and_, choose-clear, choose-set, is-equal, not-equal, is-atMost, not-atMost, and-iff, and-stop, and-last-stop}
+use Rattle.laws.specs.Tests.{equal, atMost, _and_, choose-clear, choose-set, is-equal, not-equal, is-atMost, not-atMost, and-iff, and-stop, and-last-stop}
 use Rattle.laws.specs.Writing.{Went}
 use Rattle.protocol.specs.Answers.{answerOf}
 use Rattle.protocol.specs.Terms.{decimal}

@@ -3,12 +3,12 @@ use mathlib.Core.Path.{_≡_, refl, sym, ap, _∙_}
 use mathlib.Core.Logic.{_≢_}
 use mathlib.Core.Bool.{Bool, true, false}
 use mathlib.Core.List.{List, [], _∷_}
-use Prim.Native.Nat.{ℕ, zero, suc, _+_, _-_, _*_, _≤_, _<_, min}
+use Prim.Native.Nat.{ℕ, suc, _+_, _-_, _*_, _≤_, _<_, min}
 use native.Mathlib.Numerals.{add-one}
 use native.Mathlib.Omega.{arith}
 use lib.ListN.{length, drop, getD}
 use lib.Seq.{drop-cons, drop-length}
-use Rattle.laws.specs.Tests.{pick, atMost, _and_, is-atMost, not-atMost, and-iff, and-stop, and-last-stop}
+use Rattle.laws.specs.Tests.{atMost, _and_, is-atMost, not-atMost, and-iff, and-stop, and-last-stop}
 use Rattle.teller.specs.declared.Argument.{Argument}
 use Rattle.teller.specs.declared.Argument.the-variants.{Number, Otherwise}
 use Rattle.teller.specs.Arguments.{saidFrom, saidBy}

@@ -1,5 +1,4 @@
 -- How long a page may be, and what its writers are told.
-use mathlib.Core.Path.{_≡_}
 use mathlib.Core.List.{List}
 use Prim.Native.Nat.{ℕ, _+_, _*_, _≤_}
 use Rattle.results.specs.Ready.{VotesReady}

@@ -1,6 +1,5 @@
 -- `runoff::counts_for` meets its contract: the digits that were read are the end of a ranking that stands.
 use native.Mathlib.Omega.{arith}
-use borrow.Author.Needs.{needs}
 use Rattle.runoff.proofs.Rankings.{Read, none-read, zero-fails, high-fails, repeated-fails, one-read, all-read}
 use Rattle.runoff.proofs.counts_for.Statement.{statement}
 use Rattle.runoff.proofs.counts_for.Tie as tie

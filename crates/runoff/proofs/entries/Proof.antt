@@ -1,8 +1,7 @@
 -- `runoff::entries` meets its contract: the first i entries are stored.
-use mathlib.Core.Path.{_≡_, refl, sym, ap, _∙_}
+use mathlib.Core.Path.{_≡_, sym, _∙_}
 use Prim.Native.Nat.{_-_, _≤_}
 use native.Mathlib.Omega.{arith}
-use borrow.Author.Needs.{needs}
 use Rattle.runoff.specs.Rounds as definitions
 use Rattle.runoff.proofs.Filled.{filled, filled-none}
 use Rattle.runoff.proofs.Table.{nobody, stored-entry, all-entries}

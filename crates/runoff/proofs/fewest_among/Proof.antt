@@ -1,5 +1,5 @@
 -- `runoff::fewest_among` meets its contract: who leaves among the first n candidates.
-use mathlib.Core.Path.{_≡_, refl, sym, _∙_}
+use mathlib.Core.Path.{_≡_, refl}
 use Prim.Native.Nat.{_-_, _≤_}
 use native.Mathlib.Omega.{arith}
 use Rattle.protocol.specs.Terms.{item}

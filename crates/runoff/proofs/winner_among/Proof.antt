@@ -1,5 +1,5 @@
 -- `runoff::winner_among` meets its contract: the winner among the first n candidates.
-use mathlib.Core.Path.{_≡_, refl, sym, _∙_}
+use mathlib.Core.Path.{_≡_, refl, _∙_}
 use Prim.Native.Nat.{_-_, _≤_}
 use native.Mathlib.Omega.{arith}
 use Rattle.protocol.specs.Terms.{item}
