@@ -19,7 +19,7 @@
  *
  * TERMS. M is the modulus, n the number of ballots; there are 2m lists, of which m are compared and m opened. In the arguments:
  *     modulus    M, 2 to 4294967295; every number is below it, and sums and differences are taken modulo M
- *     ballots    n, 1 to 1024
+ *     ballots    n, 1 to 4096
  *     compared   m, 1 to 12: the number of lists that are compared, half of all lists
  *     mask       bit i (bit 0 is the lowest) is set where list i is compared: exactly m bits, none at 2m or above
  *     dice       30 characters '1' to '6'
@@ -108,7 +108,7 @@ static inline const char *paddockyear_rule(uint32_t number) {
 /* ---- Lengths that are due --------------------------------------------------------------------------------------------------------- */
 
 enum {
-    PADDOCKYEAR_MOST_BALLOTS = 1024,
+    PADDOCKYEAR_MOST_BALLOTS = 4096,
     PADDOCKYEAR_MOST_COMPARED = 12,
     PADDOCKYEAR_MOST_CANDIDATES = 9,
     PADDOCKYEAR_DICE_LENGTH = 30,
@@ -127,7 +127,7 @@ enum {
 #define PADDOCKYEAR_RECORD_LENGTH(n, m) (75 + 316 * (size_t)(n) + 734 * (size_t)(m) * (size_t)(n))
 
 /* The bytes of stack that a call needs at most. */
-enum { PADDOCKYEAR_STACK = 8192, PADDOCKYEAR_STACK_JUDGING = 32768, PADDOCKYEAR_STACK_WRITING = 65536 };
+enum { PADDOCKYEAR_STACK = 8192, PADDOCKYEAR_STACK_JUDGING = 196608, PADDOCKYEAR_STACK_WRITING = 262144 };
 
 /* ---- SHA-3 (FIPS 202) ------------------------------------------------------------------------------------------------------------- */
 

@@ -11,7 +11,7 @@ use Rattle.laws.specs.Writing.{Went, go-on, whole, part-is, row-within}
 use Rattle.protocol.specs.declared.Parameters.{Parameters}
 use Rattle.protocol.specs.declared.Place.{Place}
 use Rattle.protocol.specs.declared.Place.the-variants.{InBallot, InEntry}
-use Rattle.protocol.specs.Terms.{item, commitment, opening}
+use Rattle.protocol.specs.Terms.{item, mostBallots, commitment, opening}
 use Rattle.protocol.specs.Tablet.{ballotCommand}
 use Rattle.protocol.specs.Layout.{lists, atFirstDice, partOneLength}
 use Rattle.protocol.specs.Record.{firstCommand, entryCommand, partOne}
@@ -68,7 +68,7 @@ module _ (s : Slices) where
   entryKeysAt l i = 192 * s .parameters .ballots + 192 * (l * s .parameters .ballots + i)
 
   pub keys-within : Passed s → (l i : ℕ) → l < lists (s .parameters) → i < s .parameters .ballots
-      → (entryKeysAt l i + 192 ≤ length (s .keys)) × (length (s .keys) ≤ 4915200)
+      → (entryKeysAt l i + 192 ≤ length (s .keys)) × (length (s .keys) ≤ 192 * (25 * mostBallots))
   keys-within t l i ll li =
       let few = all-few (agreement.in-list s (t .tests) ll) in
       let here = row-within l (2 * s .parameters .compared) (s .parameters .ballots) ll in

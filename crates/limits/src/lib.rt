@@ -61,7 +61,7 @@ pub fn is_permutation(n: usize, permutation: &[u16]) -> bool
     requires { ⌜ (length (now permutation) ≡ n) × (n ≤ mostBallots) ⌝ }
     ensures { λ r. ⌜ r ≡ isPermutation n (item (before permutation)) ⌝ }
 {
-    let mut marks = [false; 1024];
+    let mut marks = [false; 4096];
     let mut i: usize = 0;
     while i < n {
         let place = permutation[i] as usize;

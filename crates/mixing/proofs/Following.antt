@@ -15,7 +15,7 @@ use Rattle.laws.specs.Modular.{plus, minus, plus-below, third-of}
 use Rattle.laws.specs.Permutations.{Perm, perm-then, whence, whence-of}
 use Rattle.laws.specs.Writing.{row-within}
 use Rattle.protocol.specs.declared.Parameters.{Parameters}
-use Rattle.protocol.specs.Terms.{item}
+use Rattle.protocol.specs.Terms.{item, mostBallots}
 use Rattle.protocol.specs.Tablet.{share, slot}
 use Rattle.protocol.specs.Columns.{row, thirdOffset, source}
 use Rattle.protocol.specs.Layout.{lists}
@@ -27,7 +27,7 @@ use Rattle.mixing.specs.Followed.{trail, InList, Places, Numbers, threeA
 -- ---- places
 
 module _ {p : Parameters} {l : ℕ} (h : InList p l) where
-  pub all-few : p .compared * p .ballots ≤ 12288
+  pub all-few : p .compared * p .ballots ≤ 12 * mostBallots
   all-few = omega (arith, mul-le-mul-right {m = p .compared} {n = 12} (p .ballots) (h .few-lists), h .few)
 
   pub place-end : (c i : ℕ) → c < 3 → i < p .ballots → l * (3 * p .ballots) + (c * p .ballots + i) < 6 * (p .compared * p .ballots)

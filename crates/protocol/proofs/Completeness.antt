@@ -11,7 +11,7 @@ use Rattle.laws.specs.Sorting.{sort, length-sort}
 use Rattle.laws.specs.Tables.{tabulate, tabulate-of}
 use Rattle.protocol.specs.Answers.{accepted}
 use Rattle.protocol.specs.Terms.{item}
-use Rattle.protocol.specs.Record.{Board, Comparison, Disclosure, encoding}
+use Rattle.protocol.specs.Record.{parametersOf, Board, Comparison, Disclosure, encoding}
 use Rattle.protocol.specs.Drawing.{challenge, drawnMask, drawnSide}
 use Rattle.protocol.specs.Rules.{fairDice, rightShape}
 use Rattle.protocol.specs.Judging.{judged}
@@ -68,6 +68,10 @@ module _ (s : Slices) (g : Good (inputsOf s)) (dice₁ : List ℕ) (mask : ℕ) 
   written-stands : Stands (written s dice₁ mask dice₂ sides)
   unfolding board comparison disclosure
   written-stands = rw is-encoding (stands board comparison disclosure fits (honest-valid (inputsOf s) g choice))
+
+  written-parameters : parametersOf (written s dice₁ mask dice₂ sides) ≡ s .parameters
+  unfolding board postedBoard inputsOf
+  written-parameters = ap parametersOf is-encoding ∙ read-parameters board comparison disclosure fits
 
   pub written-accepted : judged false (written s dice₁ mask dice₂ sides) ≡ accepted
   written-accepted = accepts-iff (written s dice₁ mask dice₂ sides) .1 written-stands
@@ -165,6 +169,11 @@ module _ (s : Slices) where
       written-accepted s good dice₁ (electionMask s byMask dice₁) dice₂ (electionSides s byMask dice₁ bySides dice₂) taken,
       written-announces s good dice₁ (electionMask s byMask dice₁) dice₂ (electionSides s byMask dice₁ bySides dice₂) taken votes-long,
     )
+
+    -- its parameters are those that the servers were given
+    pub complete-parameters : parametersOf (electionRecord s byMask dice₁ bySides dice₂) ≡ s .parameters
+    unfolding electionRecord electionTwo electionThree written
+    complete-parameters = written-parameters s good dice₁ (electionMask s byMask dice₁) dice₂ (electionSides s byMask dice₁ bySides dice₂) taken
 
   -- where mask and sides are drawn, drawn judging accepts it too
   pub complete-drawn : (dice₁ dice₂ : List ℕ) → Below 4294967296 (s .ids) → Unrefusing s drawn dice₁ drawn dice₂ → judged true (electionRecord s drawn dice₁ drawn dice₂) ≡ accepted

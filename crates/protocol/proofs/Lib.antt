@@ -7,6 +7,7 @@ pub mod Alike
 pub mod Transport
 pub mod Soundness
 pub mod Meetable
+pub mod Sizes
 pub mod Mixing
 pub mod Honesty
 pub mod Unrefused
@@ -23,6 +24,7 @@ pub mod Standing
 pub mod Tablets
 pub mod Receipts
 pub mod Lengths
+pub mod Limit
 pub mod Faultless
 pub mod Agreeing
 pub mod Tested

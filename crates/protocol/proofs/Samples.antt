@@ -77,11 +77,13 @@ own =
     ∷ record { computed = thirdOffsets 9 (1 ∷ 8 ∷ []) (2 ∷ 8 ∷ []) ++ secondHalves 9 (1 ∷ 8 ∷ []) (2 ∷ 3 ∷ []); expected = 6 ∷ 2 ∷ 8 ∷ 5 ∷ [] }
     -- a lower list takes a lower bit; as many lists as are still to choose are all chosen
     ∷ record { computed = drawFrom (λ i. i) 0 4 2 ∷ drawFrom (λ i. 3) 0 4 2 ∷ []; expected = 5 ∷ 10 ∷ [] }
-    -- limits: n = 1,024 stands, 1,025 does not; M = 1 does not; m = 12 stands, 13 does not
+    -- limits: n = 1,025 and 4,096 stand, 4,097 does not; M = 1 does not; m = 12 stands, 13 does not
     ∷ record {
-      computed = oneIf (inLimits (parameters 2 1024 12)) ∷ oneIf (inLimits (parameters 2 1025 12)) ∷ oneIf (inLimits (parameters 1 1 1)) ∷ oneIf (inLimits (parameters 2 1 13)) ∷ oneIf (inLimits (parameters 2 0 1)) ∷ oneIf (inLimits (parameters 2 1 0)) ∷ [];
-      expected = 1 ∷ 0 ∷ 0 ∷ 0 ∷ 0 ∷ 0 ∷ [];
+      computed = oneIf (inLimits (parameters 2 1025 12)) ∷ oneIf (inLimits (parameters 2 4096 12)) ∷ oneIf (inLimits (parameters 2 4097 12)) ∷ oneIf (inLimits (parameters 1 1 1)) ∷ oneIf (inLimits (parameters 2 1 13)) ∷ oneIf (inLimits (parameters 2 0 1)) ∷ oneIf (inLimits (parameters 2 1 0)) ∷ [];
+      expected = 1 ∷ 1 ∷ 0 ∷ 0 ∷ 0 ∷ 0 ∷ 0 ∷ [];
     }
+    -- "so the longest record has 37,371,979 bytes"
+    ∷ record { computed = recordLength (parameters 2 4096 12) ∷ []; expected = 37371979 ∷ [] }
     -- a key, then a number, its most significant byte first
     ∷ record { computed = opening (9 ∷ 8 ∷ []) 16909060; expected = 9 ∷ 8 ∷ 1 ∷ 2 ∷ 3 ∷ 4 ∷ [] }
     -- operands in their order and widths
@@ -167,7 +169,7 @@ refusals =
     }
     -- a row server: modulus and number of ballots; each of four lengths; numbers and offsets; a place twice, and one that is not there
     ∷ record {
-      computed = rowRefusal 9 2 (8 ∷ 8 ∷ []) (8 ∷ 8 ∷ []) (1 ∷ 0 ∷ []) 2 ∷ rowRefusal 1 2 [] [] [] 0 ∷ rowRefusal 9 0 [] [] [] 0 ∷ rowRefusal 9 1025 [] [] [] 0 ∷ [];
+      computed = rowRefusal 9 2 (8 ∷ 8 ∷ []) (8 ∷ 8 ∷ []) (1 ∷ 0 ∷ []) 2 ∷ rowRefusal 1 2 [] [] [] 0 ∷ rowRefusal 9 0 [] [] [] 0 ∷ rowRefusal 9 4097 [] [] [] 0 ∷ [];
       expected = 0 ∷ 3 ∷ 3 ∷ 3 ∷ [];
     }
     ∷ record {
@@ -182,7 +184,7 @@ refusals =
     }
     -- row three's offsets and the split: the same without a permutation
     ∷ record {
-      computed = pairRefusal 9 2 (8 ∷ 8 ∷ []) (8 ∷ 8 ∷ []) 2 ∷ pairRefusal 1 2 [] [] 0 ∷ pairRefusal 9 1025 [] [] 0 ∷ [];
+      computed = pairRefusal 9 2 (8 ∷ 8 ∷ []) (8 ∷ 8 ∷ []) 2 ∷ pairRefusal 1 2 [] [] 0 ∷ pairRefusal 9 4097 [] [] 0 ∷ [];
       expected = 0 ∷ 3 ∷ 3 ∷ [];
     }
     ∷ record {

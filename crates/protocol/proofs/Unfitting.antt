@@ -100,7 +100,7 @@ unfolding ballotsInLimits
 ballots n = outside _ _ n
 
 limits : (p : Parameters) → Tells (inLimits p) (ModulusOutside (p .modulus) ⊎ BallotsOutside (p .ballots) ⊎ ListsOutside (p .compared))
-unfolding inLimits listsInLimits
+unfolding inLimits ballotsInLimits listsInLimits
 limits p = both (modulus _) (both (ballots _) (outside _ _ _))
 
 shape : (m mask : ℕ) → Tells (rightShape m mask) (Misshapen m mask)

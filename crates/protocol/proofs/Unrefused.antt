@@ -68,7 +68,7 @@ pub record Unrefused (s : Slices) (lengths fair shape binary : Bool) : Type 0 wh
   pub binary-sides : binary ≡ true
   pub permutations : (l c : ℕ) → l < 2 * s .parameters .compared → c < 3 → Perm (s .parameters .ballots) (inputsOf s .permutation l c)
 
-ruleset tests = (rules, all-below-iff, permutation-iff)
+pub ruleset tests = (rules, all-below-iff, permutation-iff)
 
 pub unrefused : (s : Slices) (lengths fair shape binary : Bool) → refusal s lengths fair shape binary ≡ 0 → Unrefused s lengths fair shape binary
 unfolding refusal inLimits modulusInLimits ballotsInLimits listsInLimits dueLengths idsRise allPermutations

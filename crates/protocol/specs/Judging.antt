@@ -14,7 +14,7 @@ use Rattle.protocol.specs.declared.Due.the-variants.{First, Ballot, Entr
 use Rattle.protocol.specs.Answers.{Answer, answerOf}
 use Rattle.protocol.specs.Layout.{lists, recordLength}
 use Rattle.protocol.specs.Record.{parametersOf, maskOf}
-use Rattle.protocol.specs.Rules.{placeOf, fault}
+use Rattle.protocol.specs.Rules.{placeOf, firstRulesUpTo, inCommand, fault}
 
 module _ (p : Parameters) (r : List ℕ) where
   -- for every compared list, and for every uncompared one
@@ -67,12 +67,29 @@ module _ (drawn : Bool) (p : Parameters) (r : List ℕ) where
       then (first halfFaults (p .ballots)
       then (voteFaults (p .ballots) then (first (λ l. ifOpened p r l (fullFaults l)) (lists p) then (found End then trailingFault p r))))
 
+  -- all that comes behind the first command
+  abbrev pub laterFaults : Found
+  laterFaults = partOneFaults then (partTwoFaults then partThreeFaults)
+
 -- the first fault of a record: "Plain judging takes mask and sides as posted. Drawn judging also demands that they be the drawn ones."
 unfoldable pub firstFault : Bool → List ℕ → Found
 firstFault drawn r =
     let p = parametersOf r in
-    found drawn p r First then (partOneFaults drawn p r then (partTwoFaults drawn p r then partThreeFaults drawn p r))
+    found drawn p r First then laterFaults drawn p r
 
 -- accepted, or refused by the number of the first rule broken
 unfoldable pub judged : Bool → List ℕ → Answer
 judged drawn r = answerOf (numberOf (firstFault drawn r)) []
+
+-- ---- the limit on n as a parameter: document 02, item 3, "n may now be up to 4,096". Only rule 3 knows it.
+
+-- the first command's fault, where n may be up to `most`
+unfoldable pub firstCommandUpTo : ℕ → List ℕ → Found
+firstCommandUpTo most r = let p = parametersOf r in located (placeOf p r First) (inCommand p r First (firstRulesUpTo most r))
+
+-- the first fault of a record, and its verdict
+unfoldable pub firstFaultUpTo : ℕ → Bool → List ℕ → Found
+firstFaultUpTo most drawn r = firstCommandUpTo most r then laterFaults drawn (parametersOf r) r
+
+unfoldable pub judgedUpTo : ℕ → Bool → List ℕ → Answer
+judgedUpTo most drawn r = answerOf (numberOf (firstFaultUpTo most drawn r)) []

@@ -17,7 +17,7 @@ use Rattle.protocol.specs.declared.Due.{Due}
 use Rattle.protocol.specs.declared.Due.the-variants.{First, Ballot, Entry, FirstDice, Link, SecondDice, BallotHalf, ListHalf, Vote, FullOpening, End}
 use Rattle.protocol.specs.declared.Place.{Place}
 use Rattle.protocol.specs.declared.Place.the-variants.{InBallot, InEntry}
-use Rattle.protocol.specs.Terms.{item, inLimits, opened, commitment, sumOfThree, sumOfSix}
+use Rattle.protocol.specs.Terms.{item, mostBallots, inLimitsUpTo, opened, commitment, sumOfThree, sumOfSix}
 use Rattle.protocol.specs.Layout.{code, width, atBallot, atEntry, atFirstDice, atSecondDice, atBallotHalf, atVote, atEnd}
 use Rattle.protocol.specs.Record.{parametersOf, idOf, ballotCommitmentOf, entryCommitmentOf, firstDiceOf, maskOf, linkPlace, positionOf, shiftOf, secondDiceOf, sideOf, ballotOpeningOf, listHalfPlace, listOpeningOf, voteOf, fullPlace, fullOpeningOf}
 use Rattle.protocol.specs.Drawing.{challenge, drawnMask, drawnSide}
@@ -53,9 +53,12 @@ agrees M (suc side) ballot list t = equal ballot (minus M list t)
 
 -- ---- the rules of a whole command; `drawn` is the switch between plain and drawn judging
 
--- 01: 3
+-- 01: 3, where n may be up to `most`
+abbrev pub firstRulesUpTo : ℕ → List ℕ → ℕ
+firstRulesUpTo most r = rule 3 (inLimitsUpTo most (parametersOf r)) kept
+
 unfoldable pub firstRules : List ℕ → ℕ
-firstRules r = rule 3 (inLimits (parametersOf r)) kept
+firstRules r = firstRulesUpTo mostBallots r
 
 module _ (p : Parameters) (r : List ℕ) where
   -- 02: 5, "an id not above the one before"
@@ -158,8 +161,11 @@ module _ (p : Parameters) (r : List ℕ) where
   placeOf (FullOpening l i) = fullPlace p r l i
   placeOf End = atEnd p
 
-  -- "In it: no byte left 1, byte not due 2, operands cut short 1, then rising numbers."
-  unfoldable pub fault : Bool → Due → ℕ
-  fault drawn d =
+  -- "In it: no byte left 1, byte not due 2, operands cut short 1, then rising numbers.", which `rising` says
+  abbrev pub inCommand : Due → ℕ → ℕ
+  inCommand d rising =
       rule 1 (below (placeOf d) (length r))
-      (rule 2 (equal (item r (placeOf d)) (code p d)) (rule 1 (atMost (placeOf d + width p d) (length r)) (rules drawn d)))
+      (rule 2 (equal (item r (placeOf d)) (code p d)) (rule 1 (atMost (placeOf d + width p d) (length r)) rising))
+
+  unfoldable pub fault : Bool → Due → ℕ
+  fault drawn d = inCommand d (rules drawn d)

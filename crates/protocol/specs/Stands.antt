@@ -39,7 +39,8 @@ pub record Laid (p : Parameters) (r : List ℕ) : Type 0 where
 
 -- rules 3, 5 to 7, 9 to 11 and 13 to 16
 pub record Valid (b : Board) (k : Comparison) (d : Disclosure) : Type 0 where
-  -- "M is the modulus, 2 to 4,294,967,295. n is the number of ballots, 1 to 1,024. There are 2m lists, m from 1 to 12."
+  -- "M is the modulus, 2 to 4,294,967,295. n is the number of ballots", 1 to 4,096 (document 02, item 3). "There are 2m lists, m from 1 to
+  -- 12."
   pub modulus-low : 2 ≤ b .parameters .modulus
   pub modulus-high : b .parameters .modulus ≤ 4294967295
   pub ballots-low : 1 ≤ b .parameters .ballots

@@ -18,20 +18,27 @@ parameters M n m = record { modulus = M; ballots = n; compared = m }
 unfoldable pub modulusInLimits : ℕ → Bool
 modulusInLimits M = atMost 2 M and atMost M 4294967295
 
--- "n is the number of ballots, 1 to 1,024."
+-- "n is the number of ballots", 1 to 1,024 in document 01; document 02, item 3: "n may now be up to 4,096". The limit is a parameter,
+-- `most`, of all that tests it, so that records can be judged under either (`firstFaultUpTo` in `Judging`).
 abbrev pub mostBallots : ℕ
-mostBallots = 1024
+mostBallots = 4096
+
+abbrev pub ballotsUpTo : ℕ → ℕ → Bool
+ballotsUpTo most n = atMost 1 n and atMost n most
 
 unfoldable pub ballotsInLimits : ℕ → Bool
-ballotsInLimits n = atMost 1 n and atMost n mostBallots
+ballotsInLimits n = ballotsUpTo mostBallots n
 
 -- "There are 2m lists, m from 1 to 12."
 unfoldable pub listsInLimits : ℕ → Bool
 listsInLimits m = atMost 1 m and atMost m 12
 
 -- rule 3: "M, n or m outside its limits"
+abbrev pub inLimitsUpTo : ℕ → Parameters → Bool
+inLimitsUpTo most p = modulusInLimits (p .modulus) and ballotsUpTo most (p .ballots) and listsInLimits (p .compared)
+
 unfoldable pub inLimits : Parameters → Bool
-inLimits p = modulusInLimits (p .modulus) and ballotsInLimits (p .ballots) and listsInLimits (p .compared)
+inLimits p = inLimitsUpTo mostBallots p
 
 -- "Indices, list numbers and positions start at 0."
 abbrev pub item : List ℕ → ℕ → ℕ

@@ -1,7 +1,7 @@
 // The types that code and definitions share. The definitions of document 01 are in specs/, what they mean together in proofs/.
 
 // The limit on the number of ballots, and the length of a row of marks.
-pub const MOST_BALLOTS: usize = 1024;
+pub const MOST_BALLOTS: usize = 4096;
 
 // How the servers' inputs are cut: the numbers of a ballot, the numbers and the permutations' numbers of a list entry, and the bytes of
 // keys of either.

@@ -52,7 +52,7 @@ fn link_faults(bytes: &[u8], p: Parameters, drawn: bool, l: usize) -> Found
     ensures { λ r. ⌜ r ≡ linkFaults drawn p (before bytes) l ⌝ }
 {
     let rank = layout::rank(layout::mask(p, bytes), l);
-    let mut marks = [false; 1024];
+    let mut marks = [false; 4096];
     let n = p.ballots;
     let mut j: usize = 0;
     while j < n {

@@ -5,6 +5,7 @@ use native.Mathlib.Omega.{arith}
 use lib.ListN.{length}
 use Rattle.laws.specs.Chunks.{chunks}
 use Rattle.laws.specs.Writing.{Went, start, go-turn, go-same, part-length}
+use Rattle.protocol.specs.Terms.{mostBallots}
 use Rattle.protocol.specs.Inputs.{Slices, given}
 use Rattle.mixing.specs.Followed.{InList}
 use Rattle.mixing.proofs.Agreement as agreement
@@ -33,7 +34,7 @@ abbrev start-of : tie.In-loop Inv-loop μ-loop → tie.Start Inv-loop μ-loop
 start-of c = c .before .before .before .before .before .before .before .before
 
 within : (c : tie.In-loop Inv-loop μ-loop)
-    → (192 * start-of c .args .p .ballots + 192 * (start-of c .args .l * start-of c .args .p .ballots + c .before .loop .i) + 192 ≤ length (start-of c .args .keys .now)) × (length (start-of c .args .keys .now) ≤ 4915200)
+    → (192 * start-of c .args .p .ballots + 192 * (start-of c .args .l * start-of c .args .p .ballots + c .before .loop .i) + 192 ≤ length (start-of c .args .keys .now)) × (length (start-of c .args .keys .now) ≤ 192 * (25 * mostBallots))
 within c = keys-within (slices (start-of c)) (start-of c .pre .0) (start-of c .args .l) (c .before .loop .i) (start-of c .pre .1 .0) (omega arith)
 
 in-list : (c : tie.In-loop Inv-loop μ-loop) → InList (start-of c .args .p) (start-of c .args .l)

@@ -13,11 +13,11 @@ limits-read : (c : tie.After-in-limits) → c .in-limits .result ≡ inLimits (p
 limits-read c = c .in-limits .ensures ∙ ap inLimits (c .before .parameters .ensures)
 
 returns : tie.Need-returns
-unfolding firstRules
+unfolding firstRules inLimits
 returns c = rule-stop 3 _ _ (sym (limits-read (c .before)) ∙ not-true _ (c .if1 .taken))
 
 returns-2 : tie.Need-returns-2
-unfolding firstRules
+unfolding firstRules inLimits
 returns-2 c = rule-go 3 _ _ (sym (limits-read (c .before)) ∙ not-false _ (c .if1 .left)) refl
 
 pub first-rules-spec : {M : Type 1} → statement M

@@ -1,4 +1,4 @@
--- `teller::put_counted` meets its contract: a refused number of candidates, or the rounds of an accepted record, which has at most 1,024 ballots.
+-- `teller::put_counted` meets its contract: a refused number of candidates, or the rounds of an accepted record, which has at most 4,096 ballots.
 use Prim.Native.Nat.{_≤_}
 use native.Mathlib.Omega.{arith}
 use borrow.Author.Needs.{needs}

@@ -1,4 +1,4 @@
--- `results::page::put_result` meets its contract: an accepted record has at most 1,024 ballots, and its votes rise.
+-- `results::page::put_result` meets its contract: an accepted record has at most 4,096 ballots, and its votes rise.
 use Prim.Native.Nat.{_≤_}
 use native.Mathlib.Omega.{arith}
 use lib.ListN.{length-take}
