@@ -13,7 +13,7 @@ use Rattle.laws.specs.Tests.{is-equal, is-below, is-atMost, not-atMost, and-fai
 use Rattle.laws.specs.Faults.{rule, kept, rules, located, _then_, numberOf, nothing-fault, rule-go, rule-stop, located-at, then-stop}
 use Rattle.protocol.specs.declared.Parameters.{Parameters}
 use Rattle.protocol.specs.declared.Due.the-variants.{First}
-use Rattle.protocol.specs.Answers.{answerOf, accepted}
+use Rattle.protocol.specs.Answers.{answerOf, accepted, refused}
 use Rattle.protocol.specs.Terms.{item, mostBallots, modulusInLimits, listsInLimits, inLimitsUpTo, inLimits}
 use Rattle.protocol.specs.Layout.{recordLength}
 use Rattle.protocol.specs.Record.{parametersOf}
@@ -67,15 +67,19 @@ module _ (r : List ℕ) (few : parametersOf r .ballots ≤ 1024) where
 
 -- ---- beyond the limit: 3, at the first byte, wherever the first command is whole
 
-pub beyond : (most : ℕ) (drawn : Bool) (r : List ℕ) → 8 ≤ length r → item r 0 ≡ 0x01 → most < parametersOf r .ballots
-    → firstFaultUpTo most drawn r ≡ Fault 3 0
-unfolding firstFaultUpTo firstCommandUpTo
-beyond most drawn r whole due more =
-    let p = parametersOf r in
-    let outside : inLimitsUpTo most p ≡ false = and-fails _ _ .1 (inr (and-fails _ _ .1 (inl (and-fails _ _ .1 (inr (not-atMost more)))))) in
-    let three : 3 ≡ inCommand p r First (firstRulesUpTo most r) = rule-go 1 _ _ (is-below (omega (arith, whole))) (rule-go 2 _ _ (is-equal due) (rule-go 1 _ _ (is-atMost whole) (rule-stop 3 _ _ outside))) in
-    let f : Fault 3 0 ≡ firstCommandUpTo most r = located-at 0 3 (λ e. omega arith) ∙ ap (located 0) three in
-    then-stop _ _ (λ z. nothing-fault z (sym f)) ∙ sym f
+module _ (most : ℕ) (drawn : Bool) (r : List ℕ) (whole : 8 ≤ length r) (due : item r 0 ≡ 0x01) (more : most < parametersOf r .ballots) where
+  pub beyond : firstFaultUpTo most drawn r ≡ Fault 3 0
+  unfolding firstFaultUpTo firstCommandUpTo
+  beyond =
+      let p = parametersOf r in
+      let outside : inLimitsUpTo most p ≡ false = and-fails _ _ .1 (inr (and-fails _ _ .1 (inl (and-fails _ _ .1 (inr (not-atMost more)))))) in
+      let three : 3 ≡ inCommand p r First (firstRulesUpTo most r) = rule-go 1 _ _ (is-below (omega (arith, whole))) (rule-go 2 _ _ (is-equal due) (rule-go 1 _ _ (is-atMost whole) (rule-stop 3 _ _ outside))) in
+      let f : Fault 3 0 ≡ firstCommandUpTo most r = located-at 0 3 (λ e. omega arith) ∙ ap (located 0) three in
+      then-stop _ _ (λ z. nothing-fault z (sym f)) ∙ sym f
+
+  pub beyond-refused : judgedUpTo most drawn r ≡ refused 3
+  unfolding judgedUpTo numberOf answerOf
+  beyond-refused = ap (λ f. answerOf (numberOf f) []) beyond
 
 -- ---- the longest record
 

@@ -70,6 +70,10 @@ module _ (p : Parameters) where
   zeros-below : (k : ℕ) → 2 ≤ p .modulus → Below (p .modulus) (replicate k 0)
   zeros-below k h i l = rw (getD-replicate {A = ℕ} k i 0 0 (rw (length-replicate {A = ℕ} k 0) at l)) (omega arith)
 
+  -- mask and sides drawn from dice that all show 1
+  abbrev pub plainRecord : List ℕ
+  plainRecord = electionRecord (plain p) drawn allOnes drawn allOnes
+
   module _ (h : inLimits p ≡ true) where
     modulus-low : 2 ≤ p .modulus
     unfolding inLimits modulusInLimits ballotsInLimits listsInLimits
@@ -107,13 +111,9 @@ module _ (p : Parameters) where
     ids-small : Below 4294967296 (plain p .ids)
     ids-small i l = rw (get-tabulate (λ j. j) (p .ballots) i (omega (arith, length-tabulate (λ j. j) (p .ballots)))) (omega (arith, length-tabulate (λ j. j) (p .ballots), ballots-high))
 
-    -- mask and sides drawn from dice that all show 1
     pub none-refuses : electionRefusal (plain p) drawn allOnes drawn allOnes (partOneLength p) (partTwoLength p) (partThreeLength p) (recordLength p) ≡ 0
     unfolding electionRefusal maskInShape sidesDue sidesBinary
     none-refuses = unrefused (simp rules (refl, (refl, (refl, (refl, (refl, (refl, refl))))))) (simp rules (all-fair, all-fair)) refl refl
-
-    abbrev pub plainRecord : List ℕ
-    plainRecord = electionRecord (plain p) drawn allOnes drawn allOnes
 
     pub accepted-drawn : judged true plainRecord ≡ accepted
     accepted-drawn = complete-drawn (plain p) allOnes allOnes ids-small (none-refused (plain p) drawn allOnes drawn allOnes _ _ _ _ none-refuses)
@@ -130,4 +130,4 @@ unfolding inLimits modulusInLimits ballotsInLimits listsInLimits
 most-stands M low high =
     let p = parameters M 4096 12 in
     let h : inLimits p ≡ true = simp rules ((low, high), ((omega arith, omega arith), (omega arith, omega arith))) in
-    (plainRecord p h, accepted-drawn p h, parameters-are p h, long p h ∙ record-length p)
+    (plainRecord p, accepted-drawn p h, parameters-are p h, long p h ∙ record-length p)
