@@ -15,7 +15,7 @@
  * slice (18), then the rest in rising number, each over its whole input. The judge goes command by command; the first faulty one decides.
  *
  * STACK. At most PADDOCKYEAR_STACK_WRITING bytes for each part and the election, PADDOCKYEAR_STACK_JUDGING for judging, the first fault and
- * the announced votes, PADDOCKYEAR_STACK for every other call (measured, not proved).
+ * the announced votes, PADDOCKYEAR_STACK for every other call, with as many ballots and lists as there may be (measured, not proved).
  *
  * TERMS. M is the modulus, n the number of ballots; there are 2m lists, of which m are compared and m opened. In the arguments:
  *     modulus    M, 2 to 4294967295; every number is below it, and sums and differences are taken modulo M
