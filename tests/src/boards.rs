@@ -4,6 +4,8 @@ pub mod calls;
 pub mod damage;
 pub mod samples;
 
+use std::collections::BTreeSet;
+
 use crate::random::Random;
 use crate::reference::election::{election, DiceTable};
 use crate::reference::terms::{Parameters, MAX_BALLOTS, MAX_M};
@@ -12,6 +14,27 @@ use crate::reference::writer::{mask_of, Inputs};
 /// Moduli at the limits, around powers of two, and in between.
 pub const MODULI: [u32; 9] =
     [2, 3, 9, 100, 65_537, 0x7FFF_FFFF, 0x8000_0000, 0xFFFF_FFFE, u32::MAX];
+
+/// Numbers of ballots: one byte does not count the first, document 01 did not know the second, and
+/// the last is the most.
+pub const MANY: [u32; 4] = [257, 1025, 4095, MAX_BALLOTS];
+
+/// Ballots, positions and indices at both sides of where a byte or the former limit ends, and at
+/// both ends of the most ballots.
+pub const FAR_PLACES: [usize; 10] = [0, 1, 255, 256, 257, 1023, 1024, 1025, 4094, 4095];
+
+/// Other places that this one is told apart from by one byte or one bit, or by the bytes' order.
+pub fn mistaken(place: u16) -> BTreeSet<u16> {
+    let bytes = [place ^ 0x0100, place ^ 0x0001, place & 0x00FF, place.swap_bytes()];
+    let others = bytes.into_iter().chain([place ^ 1024, place % 1024]);
+    others.filter(|&other| other != place).collect()
+}
+
+/// Command 01 with this n, and nothing behind it.
+pub fn first_command(n: u16) -> Vec<u8> {
+    let [high, low] = n.to_be_bytes();
+    vec![0x01, 0, 0, 0, 2, high, low, 1]
+}
 
 /// Parameters with at most `n` ballots and 2 * `m` lists.
 pub fn parameters(random: &mut Random, n: u32, m: u32) -> Parameters {
@@ -33,6 +56,19 @@ pub fn inputs(random: &mut Random, parameters: Parameters) -> Inputs {
         permutations: (0..6 * m).flat_map(|_| random.permutation(n)).collect(),
         keys: random.bytes(192 * n + 384 * mn),
     }
+}
+
+/// The same with ballot j at place `place(j)` of every list.
+pub fn inputs_with_places(
+    random: &mut Random,
+    parameters: Parameters,
+    place: impl Fn(usize) -> usize,
+) -> Inputs {
+    let still: Vec<u16> = (0..parameters.n as u16).collect();
+    let mut first = still.clone();
+    still.iter().for_each(|&j| first[place(usize::from(j))] = j);
+    let of_list = [first, still.clone(), still].concat();
+    Inputs { permutations: of_list.repeat(parameters.lists()), ..inputs(random, parameters) }
 }
 
 /// Slices of the lengths that these parameters ask for, also outside their limits: every number is

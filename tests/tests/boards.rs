@@ -2,10 +2,8 @@
 //! reference, and what their names promise.
 
 use std::collections::{BTreeMap, BTreeSet};
-use std::path::Path;
-use std::{fs, io};
 
-use paddockyear_tests::boards::samples::files;
+use paddockyear_tests::boards::samples::{files, stored};
 use paddockyear_tests::reference::judge::Judging;
 use paddockyear_tests::reference::page::{page, teller_page, LONGEST};
 use paddockyear_tests::reference::runoff::{Candidate, Outcome};
@@ -15,23 +13,12 @@ use paddockyear_tests::subjects::product as subject;
 #[cfg(not(feature = "linked"))]
 use paddockyear_tests::subjects::reference as subject;
 
-/// The boards in the folder, by name.
-fn committed() -> io::Result<BTreeMap<String, Vec<u8>>> {
-    let folder = Path::new(env!("CARGO_MANIFEST_DIR")).join("../samples");
-    let paths = fs::read_dir(folder)?.map(|entry| Ok(entry?.path()));
-    let paths: Vec<_> = paths.collect::<io::Result<_>>()?;
-    let boards = paths.iter().filter(|path| path.extension().is_some_and(|kind| kind == "board"));
-    boards
-        .map(|path| Ok((path.file_name().unwrap().to_string_lossy().into(), fs::read(path)?)))
-        .collect()
-}
-
 #[test]
 fn they_are_what_is_written() {
-    let (committed, written) = (committed().unwrap(), BTreeMap::from_iter(files()));
-    assert!(committed.keys().eq(written.keys()), "{:?}", committed.keys());
+    let (stored, written) = (stored().unwrap(), BTreeMap::from_iter(files()));
+    assert!(stored.keys().eq(written.keys()), "{:?}", stored.keys());
     for (name, bytes) in written {
-        assert!(committed[&name] == bytes, "{name}");
+        assert!(stored[&name] == bytes, "{name}");
     }
 }
 
@@ -39,7 +26,7 @@ fn they_are_what_is_written() {
 #[test]
 fn their_names_are_true() {
     let mut refused = BTreeSet::new();
-    for (name, bytes) in committed().unwrap() {
+    for (name, bytes) in stored().unwrap() {
         let number =
             subject::judge(&bytes, Judging::Drawn).map_or_else(|fault| fault.number, |_| 0);
         let due = name.strip_prefix("refused-").map_or("0", |rest| &rest[..rest.len() - 6]);
@@ -48,13 +35,13 @@ fn their_names_are_true() {
         refused.insert(number);
     }
     assert_eq!(refused, BTreeSet::from([0, 1, 5, 8, 9, 12, 13, 14, 16, 17]));
-    assert_eq!(page(&committed().unwrap()["votes-2-5-5.board"]), "ACCEPTED\n2 1\n5 2\n");
+    assert_eq!(page(&stored().unwrap()["votes-2-5-5.board"]), "ACCEPTED\n2 1\n5 2\n");
 }
 
 /// Worked out by hand: 18 votes count at first, then 17.
 #[test]
 fn the_ranked_board() {
-    let record = &committed().unwrap()["ranked.board"];
+    let record = &stored().unwrap()["ranked.board"];
     let mut votes = [0; 23];
     subject::announced_votes(record, &mut votes).unwrap();
     let mut table = [Candidate { count: 77, left: 77 }; 4];

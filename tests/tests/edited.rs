@@ -9,7 +9,7 @@ use paddockyear_tests::edited::runoff as edited_runoff;
 use paddockyear_tests::edited::{disclosure, results, verifier, wire};
 use paddockyear_tests::random::Random;
 use paddockyear_tests::reference::runoff::Candidate;
-use paddockyear_tests::reference::terms::Parameters;
+use paddockyear_tests::reference::terms::{Parameters, MAX_BALLOTS};
 use paddockyear_tests::subjects::product::runoff;
 
 #[test]
@@ -22,7 +22,7 @@ fn slices_of_two_lengths() {
 #[test]
 fn lines_of_the_tally() {
     let (_, board) = files().into_iter().find(|(name, _)| name == "eight-ballots.board").unwrap();
-    let mut out = vec![0u8; 5 + 22 * 1024];
+    let mut out = vec![0u8; 5 + 22 * MAX_BALLOTS as usize];
     let end = results::page::put_result(&board, &mut out, 5);
     assert_eq!(&out[5..end], b"1 3\n34 2\n51 1\n86 2\n");
     assert!(out[..5].iter().chain(&out[end..]).all(|byte| *byte == 0));

@@ -9,8 +9,8 @@ use std::path::{Path, PathBuf};
 use std::process::{Command, Output, Stdio};
 
 use paddockyear_tests::boards::damage::damaged;
-use paddockyear_tests::boards::samples::{with_votes, RANKED};
-use paddockyear_tests::boards::{honest, parameters, BOTH};
+use paddockyear_tests::boards::samples::{stored, with_votes, RANKED};
+use paddockyear_tests::boards::{first_command, honest, parameters, BOTH};
 use paddockyear_tests::random::Random;
 use paddockyear_tests::reference::judge::Judging;
 use paddockyear_tests::reference::page::{candidates_of, page, teller_page, LONGEST};
@@ -64,18 +64,9 @@ fn check(input: &[u8]) {
 
 /// Names and bytes of the sample boards.
 fn samples() -> Vec<(String, Vec<u8>)> {
-    let folder = Path::new(env!("CARGO_MANIFEST_DIR")).join("../samples");
-    let mut found = Vec::new();
-    for entry in fs::read_dir(folder).expect("the samples are there") {
-        let path = entry.expect("a file").path();
-        if path.extension().is_none_or(|end| end != "board") {
-            continue;
-        }
-        let name = path.file_stem().unwrap().to_string_lossy().into_owned();
-        found.push((name, fs::read(&path).expect("a board can be read")));
-    }
+    let found = stored().expect("the samples can be read");
     assert!(found.len() >= 12);
-    found
+    found.into_iter().map(|(name, bytes)| (name.replace(".board", ""), bytes)).collect()
 }
 
 #[test]
@@ -107,6 +98,17 @@ fn length_of_the_input() {
         check(&vec![1; length]);
     }
     assert_eq!(printed(&vec![1; LONGEST + 1]), "TOO LONG\n");
+}
+
+/// Records that stop behind n: both pages have 1 where it is within its limit, else 3.
+#[test]
+fn limit_of_n() {
+    for (n, number) in [(0, 3), (1, 1), (1024, 1), (1025, 1), (4096, 1), (4097, 3), (65_535, 3)] {
+        let record = first_command(n);
+        let due = format!("REFUSED {number}\n");
+        assert_eq!(printed(&record), due, "n = {n}");
+        assert_eq!(told("2", &record), due, "n = {n}");
+    }
 }
 
 /// What can't be read, as a folder, gets a line on standard error and no verdict.

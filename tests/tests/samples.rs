@@ -43,28 +43,43 @@ fn refused(record: &[u8], number: u8, place: usize) {
     assert_eq!(announced_votes(record, &mut [7; 2]), Err(number));
 }
 
-/// Every writer refuses these parameters, all slices being as long as they ask for.
-fn refused_by_writers(random: &mut Random, parameters: Parameters) {
+/// What every writer answers to these parameters, all slices being as long as they ask for.
+fn answered_by_writers(random: &mut Random, parameters: Parameters, due: Result<(), u8>) {
     let inputs = still_inputs(random, parameters);
     let [mut one, mut two, mut three] = parameters.part_lengths().map(|length| vec![7; length]);
     let (dice, sides) = (random.dice(), vec![0; parameters.ballots()]);
-    assert_eq!(mask_entry(&parameters, &dice, &one), Err(3));
-    assert_eq!(part_one(&inputs, &mut one), Err(3));
-    assert_eq!(part_two(&inputs, &dice, MaskSource::Given(1), &mut two), Err(3));
-    assert_eq!(part_three(&inputs, &dice, 1, SidesSource::Given(&sides), &mut three), Err(3));
+    assert_eq!(mask_entry(&parameters, &dice, &one).map(|_| ()), due);
+    assert_eq!(part_one(&inputs, &mut one), due);
+    assert_eq!(part_two(&inputs, &dice, MaskSource::Given(1), &mut two), due);
+    assert_eq!(part_three(&inputs, &dice, 1, SidesSource::Given(&sides), &mut three), due);
     let drawn = MaskSource::Drawn { part_one: &one };
-    assert_eq!(part_two(&inputs, &dice, drawn, &mut two), Err(3));
+    assert_eq!(part_two(&inputs, &dice, drawn, &mut two), due);
     let drawn = SidesSource::Drawn { part_one: &one, part_two: &two };
-    assert_eq!(part_three(&inputs, &dice, 1, drawn, &mut three), Err(3));
-    assert_eq!(ElectionCall::of(random, inputs, BOTH).hold(election), Err(3));
+    assert_eq!(part_three(&inputs, &dice, 1, drawn, &mut three), due);
+    assert_eq!(ElectionCall::of(random, inputs, BOTH).hold(election), due);
     let Parameters { modulus, n, .. } = parameters;
     let (row, places) = (vec![0; n as usize], (0..n as u16).collect::<Vec<u16>>());
     let mut out = vec![7; n as usize];
-    assert_eq!(row_server(modulus, n, &row, &row, &places, &mut out), Err(3));
-    assert_eq!(offsets_server(modulus, n, &row, &row, &mut out), Err(3));
-    assert_eq!(split_server(modulus, n, &row, &row, &mut out), Err(3));
-    assert!(one.iter().chain(&two).chain(&three).all(|&byte| byte == 7));
-    assert!(out.iter().all(|&number| number == 7));
+    assert_eq!(row_server(modulus, n, &row, &row, &places, &mut out), due);
+    assert_eq!(offsets_server(modulus, n, &row, &row, &mut out), due);
+    assert_eq!(split_server(modulus, n, &row, &row, &mut out), due);
+    if due.is_err() {
+        assert!(one.iter().chain(&two).chain(&three).all(|&byte| byte == 7));
+        assert!(out.iter().all(|&number| number == 7));
+    }
+}
+
+/// An election of so many ballots stands with all its writers; its record, and its last receipt.
+fn stands(random: &mut Random, n: u32) -> (Vec<u8>, [u8; 32]) {
+    let inputs = inputs(random, of(100, n, 1));
+    let record = record(random, &inputs);
+    accepted(&record, &inputs.votes);
+    let last = n as usize - 1;
+    let printed = receipt(inputs.ids[last], &record[8 + 197 * last..][..197]);
+    assert_eq!(check_receipt(&record, &printed), Ok(Posted::AsPrinted));
+    assert_eq!(look_up(&record, &printed), Ok(Posted::AsPrinted));
+    answered_by_writers(random, of(100, n, 1), Ok(()));
+    (record, printed)
 }
 
 #[test]
@@ -77,18 +92,21 @@ fn empty_record() {
 #[test]
 fn most_ballots() {
     let random = &mut Random::new(3);
-    let inputs = inputs(random, of(100, 1024, 1));
-    let mut record = record(random, &inputs);
-    assert_eq!(record.len(), 1_075_275);
-    accepted(&record, &inputs.votes);
-    let printed = receipt(inputs.ids[1023], &record[8 + 197 * 1023..][..197]);
-    assert_eq!(check_receipt(&record, &printed), Ok(Posted::AsPrinted));
-    assert_eq!(look_up(&record, &printed), Ok(Posted::AsPrinted));
-    record[5..7].copy_from_slice(&1025u16.to_be_bytes());
+    let (mut record, printed) = stands(random, 4096);
+    assert_eq!(record.len(), 4_300_875);
+    record[5..7].copy_from_slice(&4097u16.to_be_bytes());
     refused(&record, 3, 0);
     assert_eq!(check_receipt(&record, &printed), Err(3));
     assert_eq!(look_up(&record, &printed), Err(3));
-    refused_by_writers(random, of(100, 1025, 1));
+    answered_by_writers(random, of(100, 4097, 1), Err(3));
+}
+
+/// It was 3 before document 02's item 3.
+#[test]
+fn a_ballot_more_than_1_024() {
+    let random = &mut Random::new(7);
+    let (record, _) = stands(random, 1025);
+    assert_eq!(record.len(), 1_076_325);
 }
 
 #[test]
@@ -101,7 +119,7 @@ fn smallest_modulus() {
     refused(&record, 3, 0);
     assert_eq!(check_receipt(&record, &[0; 32]), Err(3));
     assert_eq!(look_up(&record, &[0; 32]), Err(3));
-    refused_by_writers(random, of(1, 2, 1));
+    answered_by_writers(random, of(1, 2, 1), Err(3));
     let split = SplitVote { vote: 0, shares: [0; 2], firsts: [0; 3] };
     let (mut command, mut printed) = ([7; 197], [7; 32]);
     assert_eq!(tablet(1, 5, &split, &[0; 192], &mut command, &mut printed), Err(3));
@@ -149,6 +167,7 @@ fn lengths() {
         }
     }
     assert_eq!(of(2, 1024, 12).record_length(), 9_343_051);
+    assert_eq!(of(2, 4096, 12).record_length(), 37_371_979);
 }
 
 /// The page's record: its votes and their tally.

@@ -211,7 +211,7 @@ fn nested(inputs: &Inputs) -> Election {
 #[test]
 fn the_flat_order() {
     let random = &mut Random::new(245);
-    for (n, m) in [(1, 1), (5, 3), (12, 12), (300, 1)] {
+    for (n, m) in [(1, 1), (5, 3), (12, 12), (300, 1), (1025, 1)] {
         let parameters = Parameters { modulus: modulus(random), n, m };
         let inputs = inputs(random, parameters);
         let throws = drawn(random);

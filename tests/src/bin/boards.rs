@@ -1,7 +1,7 @@
 //! Writes boards with the reference's verdicts to standard output: honest and damaged ones, or with
-//! the argument `large` honest ones of 256, 512 and 1,024 ballots and 24 lists. Each has its length
-//! in 8 bytes, then for plain and for drawn judging the number in 1 byte and the place in 8, then
-//! the record.
+//! the argument `large` honest ones of 1,024, 2,048 and 4,096 ballots and 24 lists. Each has its
+//! length in 8 bytes, then for plain and for drawn judging the number in 1 byte and the place in 8,
+//! then the record.
 
 use std::env;
 use std::io::{self, BufWriter, Write};
@@ -29,7 +29,7 @@ fn put_honest(out: &mut impl Write, random: &mut Random) -> io::Result<()> {
             put(out, &honest(random, parameters, draws).record())?;
         }
     }
-    for (n, m) in [(257, 3), (1000, 2), (1024, 1), (1024, 12)] {
+    for (n, m) in [(257, 3), (1000, 2), (1024, 1), (1024, 12), (1025, 1), (4096, 1)] {
         put(out, &honest(random, Parameters { modulus: u32::MAX, n, m }, BOTH).record())?;
     }
     Ok(())
@@ -51,7 +51,7 @@ fn put_damaged(out: &mut impl Write, random: &mut Random) -> io::Result<()> {
 }
 
 fn put_large(out: &mut impl Write, random: &mut Random) -> io::Result<()> {
-    for n in [256, 512, 1024] {
+    for n in [1024, 2048, 4096] {
         put(out, &honest(random, Parameters { modulus: u32::MAX, n, m: 12 }, BOTH).record())?;
     }
     Ok(())

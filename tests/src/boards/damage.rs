@@ -8,7 +8,9 @@ use crate::random::Random;
 use crate::reference::drawing::{drawn_mask, drawn_sides, seed};
 use crate::reference::judge::{Fault, Judging};
 use crate::reference::sha3::sha3_224;
-use crate::reference::terms::{difference, lists_of, refusal, sum, Opening, Parameters};
+use crate::reference::terms::{
+    difference, lists_of, refusal, sum, Opening, Parameters, MAX_BALLOTS,
+};
 use crate::reference::writer::Secrets;
 
 /// A board in the making: what the servers know, and what is done to the bytes.
@@ -17,6 +19,7 @@ pub struct Forgery {
     pub secrets: Secrets,
     pub mask: u32,
     pub layout: Layout,
+    most_ballots: u32,
     edits: Vec<Edit>,
     cut: usize,
     behind: Vec<u8>,
@@ -46,8 +49,15 @@ impl Edit {
 
 impl Forgery {
     pub fn new(secrets: Secrets, mask: u32) -> Self {
-        let layout = Layout::new(&secrets.parameters);
-        Forgery { secrets, mask, layout, edits: Vec::new(), cut: usize::MAX, behind: Vec::new() }
+        Forgery {
+            layout: Layout::new(&secrets.parameters),
+            secrets,
+            mask,
+            most_ballots: MAX_BALLOTS,
+            edits: Vec::new(),
+            cut: usize::MAX,
+            behind: Vec::new(),
+        }
     }
 
     pub fn set(&mut self, place: usize, bytes: &[u8]) {
@@ -244,10 +254,21 @@ pub fn breach(forgery: &mut Forgery, target: &Target, breaches: &[Breach]) -> Fa
 
 /// A random board with one or two faults, and the first of them.
 pub fn damaged(random: &mut Random, n: u32, m: u32, judging: Judging) -> (Vec<u8>, Fault) {
+    damaged_within(MAX_BALLOTS, random, (n, m), judging)
+}
+
+/// The same, `most_ballots` being the limit that n breaks.
+pub fn damaged_within(
+    most_ballots: u32,
+    random: &mut Random,
+    (n, m): (u32, u32),
+    judging: Judging,
+) -> (Vec<u8>, Fault) {
     let parameters = parameters(random, n, m);
     let secrets = Secrets::new(&inputs(random, parameters));
     let target = Target::any(random, &parameters);
     let mut forgery = Forgery::new(secrets, random.mask(parameters.m));
+    forgery.most_ballots = most_ballots;
     let mut chosen = vec![any_breach(random, &parameters, judging)];
     let other = any_breach(random, &parameters, judging);
     if chosen[0].goes_with(&other) && random.below(2) == 0 {
@@ -316,7 +337,9 @@ fn posting() -> Vec<Row> {
         (0x01, LIMITS, "M = 0", |f, _, at| f.set(at + 1, &[0, 0, 0, 0])),
         (0x01, LIMITS, "M = 1", |f, _, at| f.set(at + 1, &[0, 0, 0, 1])),
         (0x01, LIMITS, "n = 0", |f, _, at| f.set(at + 5, &[0, 0])),
-        (0x01, LIMITS, "n = 1,025", |f, _, at| f.set(at + 5, &[4, 1])),
+        (0x01, LIMITS, "a ballot too many", |f, _, at| {
+            f.set(at + 5, &(f.most_ballots as u16 + 1).to_be_bytes());
+        }),
         (0x01, LIMITS, "n = 65,535", |f, _, at| f.set(at + 5, &[255, 255])),
         (0x01, LIMITS, "m = 0", |f, _, at| f.set(at + 7, &[0])),
         (0x01, LIMITS, "m = 13", |f, _, at| f.set(at + 7, &[13])),

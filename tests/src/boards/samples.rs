@@ -1,12 +1,16 @@
 //! The files of `samples/`: honest boards, and for several rules one that drawn judging refuses.
 //! Seeds are fixed, so they are the same at every run.
 
-use super::damage::damaged;
+use std::collections::BTreeMap;
+use std::path::Path;
+use std::{fs, io};
+
+use super::damage::damaged_within;
 use super::{board, honest, inputs, Board, BOTH};
 use crate::random::Random;
 use crate::reference::judge::Judging;
 use crate::reference::page::LONGEST;
-use crate::reference::terms::Parameters;
+use crate::reference::terms::{Parameters, FORMER_MAX_BALLOTS};
 use crate::reference::writer::Inputs;
 
 /// The rules of which a refused board is written.
@@ -39,6 +43,17 @@ pub fn files() -> Vec<(String, Vec<u8>)> {
     accepted.into_iter().chain(refused).collect()
 }
 
+/// The boards that are stored in the folder, by name.
+pub fn stored() -> io::Result<BTreeMap<String, Vec<u8>>> {
+    let folder = Path::new(env!("CARGO_MANIFEST_DIR")).join("../samples");
+    let paths = fs::read_dir(folder)?.map(|entry| Ok(entry?.path()));
+    let paths: Vec<_> = paths.collect::<io::Result<_>>()?;
+    let boards = paths.iter().filter(|path| path.extension().is_some_and(|kind| kind == "board"));
+    boards
+        .map(|path| Ok((path.file_name().unwrap().to_string_lossy().into(), fs::read(path)?)))
+        .collect()
+}
+
 /// An honest board of these M, n and m.
 fn of_shape(random: &mut Random, (modulus, n, m): (u32, u32, u32)) -> Board {
     honest(random, Parameters { modulus, n, m }, BOTH)
@@ -51,10 +66,11 @@ pub fn with_votes(random: &mut Random, modulus: u32, votes: &[u32]) -> Board {
     board(random, &inputs, BOTH)
 }
 
-/// A board that the program refuses by this rule.
+/// A board that the program refuses by this rule. Those passed over break n's former limit: the
+/// dice thrown for them depend on their bytes, and the boards behind them on the dice.
 fn refused_by(random: &mut Random, rule: u8) -> Vec<u8> {
     loop {
-        let (record, fault) = damaged(random, 4, 2, Judging::Drawn);
+        let (record, fault) = damaged_within(FORMER_MAX_BALLOTS, random, (4, 2), Judging::Drawn);
         if fault.number == rule && record.len() <= LONGEST {
             return record;
         }

@@ -90,12 +90,12 @@ struct Link {
     t: u32,
 }
 
-/// Command 01.
-pub fn parameters(reader: &mut Reader) -> Result<Parameters, Fault> {
+/// Command 01, n being at most `most_ballots`.
+pub fn parameters(reader: &mut Reader, most_ballots: u32) -> Result<Parameters, Fault> {
     let mut command = reader.command(0x01, 7)?;
     let parameters =
         Parameters { modulus: command.number(4), n: command.number(2), m: command.number(1) };
-    command.demand(parameters.within_limits(), refusal::LIMITS)?;
+    command.demand(parameters.within(most_ballots), refusal::LIMITS)?;
     Ok(parameters)
 }
 
@@ -284,8 +284,13 @@ impl Judge<'_> {
 
 /// The announced votes of an accepted record, or its first fault.
 pub fn judge(record: &[u8], judging: Judging) -> Result<Vec<u32>, Fault> {
+    judge_within(MAX_BALLOTS, record, judging)
+}
+
+/// The same with another limit on n.
+pub fn judge_within(most_ballots: u32, record: &[u8], judging: Judging) -> Result<Vec<u32>, Fault> {
     let mut reader = Reader::new(record);
-    let parameters = parameters(&mut reader)?;
+    let parameters = parameters(&mut reader, most_ballots)?;
     let ballots = ballots(&mut reader, &parameters)?;
     let mut judge = Judge { reader, judging, parameters };
     let lists = judge.lists()?;

@@ -2,7 +2,7 @@
 
 use super::judge::{ballot, ballots, parameters, Fault, Reader};
 use super::sha3::sha3_224;
-use super::terms::refusal;
+use super::terms::{refusal, MAX_BALLOTS};
 
 #[derive(Clone, Copy, Debug, PartialEq, Eq)]
 pub enum Posted {
@@ -34,7 +34,7 @@ pub fn look_up(record: &[u8], receipt: &[u8]) -> Result<Posted, u8> {
 
 fn posted_ids(record: &[u8]) -> Result<Vec<u32>, Fault> {
     let mut reader = Reader::new(record);
-    let parameters = parameters(&mut reader)?;
+    let parameters = parameters(&mut reader, MAX_BALLOTS)?;
     Ok(ballots(&mut reader, &parameters)?.iter().map(|ballot| ballot.id).collect())
 }
 
@@ -42,7 +42,7 @@ fn posted_ids(record: &[u8]) -> Result<Vec<u32>, Fault> {
 /// before the look at its id.
 fn stopping_ballot(record: &[u8], sought: u32) -> Result<Option<(usize, u32)>, Fault> {
     let mut reader = Reader::new(record);
-    let parameters = parameters(&mut reader)?;
+    let parameters = parameters(&mut reader, MAX_BALLOTS)?;
     let mut before = None;
     for j in 0..parameters.ballots() {
         let id = ballot(&mut reader, before)?.id;

@@ -26,7 +26,10 @@ pub mod refusal {
     pub const CANDIDATES: u8 = 20;
 }
 
-pub const MAX_BALLOTS: u32 = 1024;
+/// By document 02's item 3.
+pub const MAX_BALLOTS: u32 = 4096;
+/// What document 01 said before that item; stored records have no more.
+pub const FORMER_MAX_BALLOTS: u32 = 1024;
 pub const MAX_M: u32 = 12;
 pub const DICE: usize = 30;
 
@@ -40,7 +43,12 @@ pub struct Parameters {
 
 impl Parameters {
     pub fn within_limits(&self) -> bool {
-        self.modulus >= 2 && ballots_within_limits(self.n) && (1..=MAX_M).contains(&self.m)
+        self.within(MAX_BALLOTS)
+    }
+
+    /// Whether they are within the limits, `most_ballots` being n's.
+    pub fn within(&self, most_ballots: u32) -> bool {
+        self.modulus >= 2 && (1..=most_ballots).contains(&self.n) && (1..=MAX_M).contains(&self.m)
     }
 
     pub fn ballots(&self) -> usize {

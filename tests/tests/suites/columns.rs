@@ -4,8 +4,10 @@ use std::collections::BTreeSet;
 
 use crate::subject::{offsets_server, row_server, split_server};
 use paddockyear_tests::boards::calls::columns::{ColumnCall, Entry, ENTRIES};
-use paddockyear_tests::boards::calls::misuse::{check_each, check_pairs, misuse_at_random};
-use paddockyear_tests::boards::{parameters, MODULI};
+use paddockyear_tests::boards::calls::misuse::{
+    check_each, check_pairs, misuse_at_random, LIMITS_OF_N,
+};
+use paddockyear_tests::boards::{mistaken, parameters, FAR_PLACES, MANY, MODULI};
 use paddockyear_tests::random::Random;
 use paddockyear_tests::reference::terms::Parameters;
 
@@ -26,7 +28,7 @@ fn answer(mut call: ColumnCall) -> u8 {
 fn honest_columns() {
     let random = &mut Random::new(60);
     for entry in ENTRIES {
-        for n in (1..=40).chain([255, 256, 257, 1023, 1024]) {
+        for n in (1..=40).chain([255, 256, 1023, 1024]).chain(MANY) {
             for modulus in MODULI {
                 assert_eq!(answer(ColumnCall::honest(random, entry, modulus, n)), 0);
             }
@@ -54,7 +56,7 @@ fn numbers_at_the_limits() {
 fn every_misuse() {
     let random = &mut Random::new(62);
     for entry in ENTRIES {
-        for n in [1, 2, 3, 257, 1024] {
+        for n in [1, 2, 3, 257, 1024, 4096] {
             check_each(&ColumnCall::honest(random, entry, 100, n), answer);
         }
     }
@@ -87,26 +89,67 @@ fn random_columns() {
 }
 
 /// Each row server's own functions give the rows whose sum stays.
+fn keeps_the_sum(random: &mut Random, modulus: u32, n: u32) {
+    let mut numbers = || (0..n).map(|_| random.number(modulus)).collect::<Vec<u32>>();
+    let rows = [numbers(), numbers(), numbers()];
+    let (first, second) = (numbers(), numbers());
+    let permutation = random.permutation(n as usize);
+    let mut third = vec![7; n as usize];
+    offsets_server(modulus, n, &first, &second, &mut third).unwrap();
+    let mut out = [vec![7; n as usize], vec![8; n as usize], vec![9; n as usize]];
+    for (row, offsets) in [first, second, third].iter().enumerate() {
+        row_server(modulus, n, &rows[row], offsets, &permutation, &mut out[row]).unwrap();
+    }
+    let total = |rows: &[Vec<u32>; 3], i: usize| {
+        rows.iter().map(|row| u64::from(row[i])).sum::<u64>() % u64::from(modulus)
+    };
+    for (i, &from) in permutation.iter().enumerate() {
+        assert_eq!(total(&out, i), total(&rows, usize::from(from)));
+    }
+}
+
 #[test]
 fn columns_keep_the_sum() {
     let random = &mut Random::new(36);
     for _ in 0..200 {
         let Parameters { modulus, n, .. } = parameters(random, 20, 1);
-        let mut numbers = || (0..n).map(|_| random.number(modulus)).collect::<Vec<u32>>();
-        let rows = [numbers(), numbers(), numbers()];
-        let (first, second) = (numbers(), numbers());
-        let permutation = random.permutation(n as usize);
-        let mut third = vec![7; n as usize];
-        offsets_server(modulus, n, &first, &second, &mut third).unwrap();
-        let mut out = [vec![7; n as usize], vec![8; n as usize], vec![9; n as usize]];
-        for (row, offsets) in [first, second, third].iter().enumerate() {
-            row_server(modulus, n, &rows[row], offsets, &permutation, &mut out[row]).unwrap();
+        keeps_the_sum(random, modulus, n);
+    }
+    for n in MANY {
+        keeps_the_sum(random, u32::MAX, n);
+    }
+}
+
+/// What a row server takes from a far place, and each place that this one may be taken for.
+#[test]
+fn far_places() {
+    let random = &mut Random::new(69);
+    let call = ColumnCall::honest(random, Entry::RowServer, u32::MAX, 4096);
+    for at in FAR_PLACES {
+        for other in mistaken(call.permutation[at]) {
+            let mut call = call.clone();
+            call.permutation[at] = other;
+            assert_eq!(answer(call), 19, "{other} at {at}");
         }
-        let total = |rows: &[Vec<u32>; 3], i: usize| {
-            rows.iter().map(|row| u64::from(row[i])).sum::<u64>() % u64::from(modulus)
-        };
-        for (i, &from) in permutation.iter().enumerate() {
-            assert_eq!(total(&out, i), total(&rows, usize::from(from)));
+    }
+    let permutation: Vec<u16> = (0..4096).map(|i| (i + 1025) % 4096).collect();
+    let (row, zeros): (Vec<u32>, Vec<u32>) = ((0..4096).collect(), vec![0; 4096]);
+    let mut out = vec![7; 4096];
+    row_server(u32::MAX, 4096, &row, &zeros, &permutation, &mut out).unwrap();
+    assert_eq!(
+        FAR_PLACES.map(|i| out[i]),
+        [1025, 1026, 1280, 1281, 1282, 2048, 2049, 2050, 1023, 1024]
+    );
+}
+
+/// Before 18.
+#[test]
+fn limits_of_n() {
+    let random = &mut Random::new(78);
+    for entry in ENTRIES {
+        let call = ColumnCall::honest(random, entry, 9, 3);
+        for (n, number) in LIMITS_OF_N {
+            assert_eq!(answer(ColumnCall { n, ..call.clone() }), number, "{entry:?}: n = {n}");
         }
     }
 }
@@ -123,7 +166,8 @@ fn row_server_refusals() {
     assert_eq!(run(9, 3, &row, &offsets, &perm, 3), (Ok(()), vec![1, 6, 8]));
     assert_eq!(run(1, 3, &row, &offsets, &perm, 2).0, Err(3));
     assert_eq!(run(9, 0, &[], &[], &[], 0).0, Err(3));
-    assert_eq!(run(9, 1025, &row, &offsets, &perm, 3).0, Err(3));
+    assert_eq!(run(9, 4097, &row, &offsets, &perm, 3).0, Err(3));
+    assert_eq!(run(9, 4096, &row, &offsets, &perm, 3).0, Err(18));
     assert_eq!(run(7, 3, &row, &offsets, &perm, 2).0, Err(18));
     assert_eq!(run(7, 3, &row, &offsets, &perm[1..], 3).0, Err(18));
     assert_eq!(run(7, 3, &row[1..], &offsets, &perm, 3).0, Err(18));

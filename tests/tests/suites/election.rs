@@ -5,7 +5,7 @@ use std::collections::BTreeSet;
 use crate::subject::{announced_votes, election, judge, part_one, part_three, part_two};
 use paddockyear_tests::boards::calls::election::ElectionCall;
 use paddockyear_tests::boards::calls::misuse::{
-    check_each, check_pairs, misuse_at_random, Misusable,
+    check_each, check_pairs, misuse_at_random, Misusable, LIMITS_OF_N,
 };
 use paddockyear_tests::boards::*;
 use paddockyear_tests::random::Random;
@@ -71,7 +71,14 @@ fn four_ways() {
 #[test]
 fn of_many_ballots() {
     let random = &mut Random::new(231);
-    for (n, m, draws) in [(257, 1, NEITHER), (1000, 1, BOTH), (1024, 1, BOTH), (1024, 12, BOTH)] {
+    for (n, m, draws) in [
+        (257, 1, NEITHER),
+        (1000, 1, BOTH),
+        (1024, 12, BOTH),
+        (1025, 2, BOTH),
+        (4095, 1, NEITHER),
+        (4096, 1, BOTH),
+    ] {
         let parameters = Parameters { modulus: u32::MAX, n, m };
         check(ElectionCall::honest(random, parameters, draws), draws);
     }
@@ -151,6 +158,13 @@ fn every_misuse() {
     }
 }
 
+#[test]
+fn every_misuse_of_many_ballots() {
+    let random = &mut Random::new(280);
+    let parameters = Parameters { modulus: 100, n: 1025, m: 1 };
+    check_each(&ElectionCall::honest(random, parameters, NEITHER), answer);
+}
+
 /// One order over the whole input: 3, then 18 for every slice, the joined one too, then rising.
 #[test]
 fn every_pair_of_misuses() {
@@ -198,24 +212,47 @@ fn order_over_all_calls() {
     }
 }
 
-/// The limits' last accepted and first refused values, every slice as long as they ask for.
-#[test]
-fn limits() {
-    let random = &mut Random::new(238);
+/// What is answered to these M, n and m, every slice as long as they ask for.
+fn check_limits(seed: u64, cases: &[(u32, u32, u32, u8)]) {
+    let random = &mut Random::new(seed);
     for draws in ALL_DRAWS {
-        for (modulus, n, m, number) in [
-            (2, 1, 1, 0),
-            (u32::MAX, 1, 12, 0),
-            (2, 1024, 1, 0),
-            (1, 1, 1, 3),
-            (2, 0, 1, 3),
-            (2, 1025, 1, 3),
-            (2, 1, 0, 3),
-            (2, 1, 13, 3),
-        ] {
+        for &(modulus, n, m, number) in cases {
             let inputs = still_inputs(random, Parameters { modulus, n, m });
             let call = ElectionCall::of(random, inputs, draws);
             assert_eq!(answer(call), number, "{draws:?}: {modulus} {n} {m}");
+        }
+    }
+}
+
+/// The limits' last accepted and first refused values.
+#[test]
+fn limits() {
+    let cases = [
+        (2, 1, 1, 0),
+        (u32::MAX, 1, 12, 0),
+        (2, 1025, 1, 0),
+        (1, 1, 1, 3),
+        (2, 0, 1, 3),
+        (2, 1, 0, 3),
+        (2, 1, 13, 3),
+    ];
+    check_limits(238, &cases);
+}
+
+#[test]
+fn limits_of_many_ballots() {
+    check_limits(281, &[(2, 4096, 1, 0), (2, 4097, 1, 3)]);
+}
+
+/// Before 18.
+#[test]
+fn limits_of_n() {
+    let random = &mut Random::new(282);
+    for draws in ALL_DRAWS {
+        for (n, number) in LIMITS_OF_N {
+            let mut call = ElectionCall::honest(random, SHAPE, draws);
+            call.inputs.parameters.n = n;
+            assert_eq!(answer(call), number, "{draws:?}: n = {n}");
         }
     }
 }

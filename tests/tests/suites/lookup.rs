@@ -215,7 +215,7 @@ const OF_PARAMETERS: [Row; 11] = [
     (3, |record, at| record[at + 1..at + 5].copy_from_slice(&[0, 0, 0, 0])),
     (3, |record, at| record[at + 1..at + 5].copy_from_slice(&[0, 0, 0, 1])),
     (3, |record, at| record[at + 5..at + 7].copy_from_slice(&[0, 0])),
-    (3, |record, at| record[at + 5..at + 7].copy_from_slice(&[4, 1])),
+    (3, |record, at| record[at + 5..at + 7].copy_from_slice(&[16, 1])),
     (3, |record, at| record[at + 7] = 0),
     (3, |record, at| record[at + 7] = 13),
     (3, |record, at| record[at + 7] = 255),
@@ -349,7 +349,7 @@ fn lengths_of_the_receipt() {
 fn ballots_that_n_counts() {
     let ids = [10, 20, 30];
     let mut record = posted(&mut Random::new(264), &ids);
-    for n in [1, 2, 3, 4, 1024] {
+    for n in [1, 2, 3, 4, 1024, 1025, 4096] {
         record[5..7].copy_from_slice(&(n as u16).to_be_bytes());
         for sought in around(&ids) {
             let due = match stop(&ids, sought) {
@@ -363,12 +363,23 @@ fn ballots_that_n_counts() {
     }
 }
 
+/// Around the limit of n, in a record that stops behind it.
+#[test]
+fn limit_of_n() {
+    for n in [0, 1, 1024, 1025, 4095, 4096, 4097, 5120, u16::MAX] {
+        let record = first_command(n);
+        let due = Err(if (1..=4096).contains(&n) { 1 } else { 3 });
+        assert_eq!(look_up(&record, &[0; 32]), due, "n = {n}");
+        assert_eq!(check_receipt(&record, &[0; 32]), due, "n = {n}");
+    }
+}
+
 /// As many ballots as there may be, of which those up to the stop are enough.
 #[test]
 fn lookups_among_many_ballots() {
-    let ids: Vec<u32> = (0..1024).map(|j| 5 + j * 0x0040_0401).collect();
+    let ids: Vec<u32> = (0..4096).map(|j| 5 + j * 0x0010_0001).collect();
     let mut record = posted(&mut Random::new(259), &ids);
-    for j in [0, 1, 255, 256, 1000, 1023] {
+    for j in FAR_PLACES {
         for sought in around(&ids[j..=j]) {
             let (printed, end) = (receipts(&record, &ids, sought), end(&ids, sought));
             let due = answers(&ids, sought).map(Ok);
@@ -377,9 +388,13 @@ fn lookups_among_many_ballots() {
             }
             assert_eq!(printed.map(|one| look_up(&record[..end - 1], &one)), [Err(1); 2]);
         }
+        for other in mistaken(j as u16).into_iter().filter(|&other| other < 4096) {
+            let other = receipt(ids[j], ballot(&record, usize::from(other)));
+            assert_eq!(look_up(&record, &other), Ok(Posted::Otherwise), "ballot {j}");
+        }
     }
     let printed = receipt(ids[0], ballot(&record, 0));
-    record[5..7].copy_from_slice(&1025u16.to_be_bytes());
+    record[5..7].copy_from_slice(&4097u16.to_be_bytes());
     assert_eq!(look_up(&record, &printed), Err(3));
 }
 

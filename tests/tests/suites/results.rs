@@ -120,18 +120,22 @@ fn random_receipts() {
     }
 }
 
-/// Ballots far behind, with ids that differ in single bytes.
+/// Ballots far behind, and the receipts of those that they may be taken for.
 #[test]
 fn receipts_among_many_ballots() {
     let random = &mut Random::new(46);
-    let mut inputs = inputs(random, Parameters { modulus: 2, n: 1024, m: 1 });
-    inputs.ids = (0..1024).map(|j| j * 0x0040_0401).collect();
+    let mut inputs = inputs(random, Parameters { modulus: 2, n: 4096, m: 1 });
+    inputs.ids = (0..4096).map(|j| j << 20 | j).collect();
     let record = board(random, &inputs, NEITHER).record();
-    for j in [0, 1, 255, 256, 1000, 1023] {
+    for j in FAR_PLACES {
         let printed = receipt(inputs.ids[j], ballot(&record, j));
         assert_eq!(check_receipt(&record, &printed), Ok(Posted::AsPrinted));
         let beside = receipt(inputs.ids[j] + 1, ballot(&record, j));
         assert_eq!(check_receipt(&record, &beside), Ok(Posted::Not));
+        for other in mistaken(j as u16).into_iter().filter(|&other| other < 4096) {
+            let other = receipt(inputs.ids[j], ballot(&record, usize::from(other)));
+            assert_eq!(check_receipt(&record, &other), Ok(Posted::Otherwise));
+        }
     }
 }
 
@@ -168,6 +172,20 @@ fn announced_by_boards_of_any_shape() {
             assert_eq!(out, due);
         }
     }
+}
+
+#[test]
+fn announced_by_many_ballots() {
+    let random = &mut Random::new(85);
+    let board = honest(random, Parameters { modulus: u32::MAX, n: 4096, m: 1 }, NEITHER);
+    let record = board.record();
+    let mut out = vec![77; 4097];
+    for length in [1024, 4095, 4097] {
+        assert_eq!(announced_votes(&record, &mut out[..length]), Err(18));
+    }
+    assert_eq!(out, [77; 4097]);
+    assert_eq!(announced_votes(&record, &mut out[..4096]), Ok(()));
+    assert_eq!(out[..4096], sorted(&board.inputs.votes));
 }
 
 /// The plain judge's number comes before 18.
@@ -245,9 +263,10 @@ fn refused_tallies() {
 
 #[test]
 fn tallies_of_many_votes() {
-    let votes: Vec<u32> = (0..1024).map(|j| (j / 3) * 0x0040_0401).collect();
-    for votes in [&votes[..], &[u32::MAX; 1024], &(0..1024).collect::<Vec<u32>>()] {
-        let (mut values, mut counts) = (vec![77; 1024], vec![78; 1024]);
+    let votes: Vec<u32> = (0..4096).map(|j| j / 3 * 0x0010_0001).collect();
+    let rising: Vec<u32> = (0..4096).collect();
+    for votes in [&votes[..1024], &votes, &[u32::MAX; 4096], &rising] {
+        let (mut values, mut counts) = (vec![77; votes.len()], vec![78; votes.len()]);
         let pairs = tally(votes, &mut values, &mut counts).unwrap();
         let again: Vec<u32> =
             (0..pairs).flat_map(|at| vec![values[at]; counts[at] as usize]).collect();

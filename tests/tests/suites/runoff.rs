@@ -400,6 +400,25 @@ fn runoff_of_many_ballots() {
     }
 }
 
+/// As many votes as a record announces at most: exactly half of them, one more, and one less.
+#[test]
+fn half_of_many_ballots() {
+    due(&[(2048, 12), (2048, 21)], [1, 0, 0], &[(4096, 0), (2048, 1)]);
+    due(&[(2047, 12), (2049, 21)], [2, 0, 0], &[(2047, 0), (2049, 0)]);
+    due(&[(2049, 12), (2047, 21)], [1, 0, 0], &[(2049, 0), (2047, 0)]);
+    due(
+        &[(1024, 0), (1024, 44), (1025, 1), (600, 2), (423, 32)],
+        [1, 1024, 1024],
+        &[(1025, 0), (600, 0), (423, 0)],
+    );
+    due(&[(1365, 1), (1366, 2), (1364, 31), (1, 0)], [1, 1, 0], &[(2729, 0), (1366, 0), (1364, 1)]);
+    let random = &mut Random::new(305);
+    for candidates in 1..=9 {
+        let votes: Vec<u32> = (0..4096).map(|_| any_vote(random, candidates)).collect();
+        check(&votes, candidates);
+    }
+}
+
 /// A call that is refused leaves the table as it was.
 fn refused(votes: &[u32], candidates: u32, length: usize) -> u8 {
     let noise: Vec<Candidate> =

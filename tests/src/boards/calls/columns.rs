@@ -1,6 +1,6 @@
 //! Calls of a column's three entries.
 
-use super::misuse::{drop_last, last, next, Misusable, Misuse};
+use super::misuse::{drop_last, further, last, Misusable, Misuse};
 use crate::boards::parameters;
 use crate::random::Random;
 use crate::reference::terms::{refusal, MAX_BALLOTS};
@@ -64,10 +64,10 @@ fn limits() -> Vec<Misuse<ColumnCall>> {
             call.n = 0;
             resize(call, 0);
         }),
-        rule("n = 1,025", |call| call.n = 1025),
-        rule("1,025 of each", |call| {
-            call.n = 1025;
-            resize(call, 1025);
+        rule("n = 4,097", |call| call.n = 4097),
+        rule("4,097 of each", |call| {
+            call.n = 4097;
+            resize(call, 4097);
         }),
         rule("n by 65,536 too large", |call| call.n |= 65_536),
         rule("n highest", |call| call.n = u32::MAX),
@@ -93,7 +93,8 @@ fn lengths() -> Vec<Misuse<ColumnCall>> {
         rule("buffer short", |call| drop_last(&mut call.out)),
         rule("buffer long", |call| call.out.push(0xA5A5)),
         rule("no buffer", |call| call.out.clear()),
-        rule("another n", |call| next(&mut call.n, MAX_BALLOTS)),
+        rule("another n", |call| further(&mut call.n, 1, MAX_BALLOTS)),
+        rule("1,024 ballots more", |call| further(&mut call.n, 1024, MAX_BALLOTS)),
     ]
 }
 
@@ -117,7 +118,7 @@ fn permutations(two_places: bool) -> Vec<Misuse<ColumnCall>> {
         Misuse::new(refusal::LENGTH, "a place less", |call| drop_last(&mut call.permutation)),
         Misuse::new(refusal::LENGTH, "a place more", |call| call.permutation.push(call.n as u16)),
         none("place n", |call| call.permutation[0] = call.n as u16),
-        none("place 1,024", |call| call.permutation[0] = 1024),
+        none("place 4,096", |call| call.permutation[0] = 4096),
         none("last place highest", |call| *last(&mut call.permutation) = u16::MAX),
     ];
     if two_places {

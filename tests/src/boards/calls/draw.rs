@@ -1,6 +1,6 @@
 //! Calls of the draw of the mask.
 
-use super::misuse::{drop_last, last, next, Misusable, Misuse};
+use super::misuse::{drop_last, further, last, Misusable, Misuse};
 use crate::random::Random;
 use crate::reference::terms::{refusal, Parameters, MAX_BALLOTS, MAX_M};
 
@@ -28,13 +28,16 @@ impl Misusable for DrawCall {
             limit("M = 0", |call| call.parameters.modulus = 0),
             limit("M = 1", |call| call.parameters.modulus = 1),
             limit("n = 0", |call| call.parameters.n = 0),
-            limit("n = 1,025", |call| call.parameters.n = 1025),
+            limit("n = 4,097", |call| call.parameters.n = 4097),
             limit("n highest", |call| call.parameters.n = u32::MAX),
             limit("m = 0", |call| call.parameters.m = 0),
             limit("m = 13", |call| call.parameters.m = 13),
             limit("m highest", |call| call.parameters.m = u32::MAX),
-            length("another n", |call| next(&mut call.parameters.n, MAX_BALLOTS)),
-            length("another m", |call| next(&mut call.parameters.m, MAX_M)),
+            length("another n", |call| further(&mut call.parameters.n, 1, MAX_BALLOTS)),
+            length("1,024 ballots more", |call| {
+                further(&mut call.parameters.n, 1024, MAX_BALLOTS);
+            }),
+            length("another m", |call| further(&mut call.parameters.m, 1, MAX_M)),
             length("29 dice", |call| drop_last(&mut call.dice)),
             length("31 dice", |call| call.dice.push(b'6')),
             length("no dice", |call| call.dice.clear()),

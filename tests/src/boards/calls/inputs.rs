@@ -1,6 +1,6 @@
 //! Misuses of the inputs that every part and the election are given.
 
-use super::misuse::{drop_last, last, next, Misuse};
+use super::misuse::{drop_last, further, last, Misuse};
 use crate::reference::terms::{refusal, MAX_BALLOTS, MAX_M};
 use crate::reference::writer::Inputs;
 
@@ -25,7 +25,7 @@ fn limits<C: Given>() -> Vec<Misuse<C>> {
         rule("M = 0", |call| call.inputs().parameters.modulus = 0),
         rule("M = 1", |call| call.inputs().parameters.modulus = 1),
         rule("n = 0", |call| call.inputs().parameters.n = 0),
-        rule("n = 1,025", |call| call.inputs().parameters.n = 1025),
+        rule("n = 4,097", |call| call.inputs().parameters.n = 4097),
         rule("n highest", |call| call.inputs().parameters.n = u32::MAX),
         rule("n by 65,536 too large", |call| call.inputs().parameters.n |= 65_536),
         rule("m = 0", |call| call.inputs().parameters.m = 0),
@@ -51,8 +51,11 @@ fn lengths<C: Given>() -> Vec<Misuse<C>> {
         rule("a key byte less", |call| drop_last(&mut call.inputs().keys)),
         rule("a key byte more", |call| call.inputs().keys.push(0)),
         rule("no keys", |call| call.inputs().keys.clear()),
-        rule("another n", |call| next(&mut call.inputs().parameters.n, MAX_BALLOTS)),
-        rule("another m", |call| next(&mut call.inputs().parameters.m, MAX_M)),
+        rule("another n", |call| further(&mut call.inputs().parameters.n, 1, MAX_BALLOTS)),
+        rule("1,024 ballots more", |call| {
+            further(&mut call.inputs().parameters.n, 1024, MAX_BALLOTS);
+        }),
+        rule("another m", |call| further(&mut call.inputs().parameters.m, 1, MAX_M)),
     ]
 }
 

@@ -3,6 +3,24 @@
 use crate::random::Random;
 use crate::reference::terms::refusal;
 
+/// Values of n, and what is answered to them where every slice is as long as three ballots ask for.
+pub const LIMITS_OF_N: [(u32, u8); 14] = [
+    (0, 3),
+    (1, 18),
+    (2, 18),
+    (1024, 18),
+    (1025, 18),
+    (4095, 18),
+    (4096, 18),
+    (4097, 3),
+    (5120, 3),
+    (65_535, 3),
+    (65_536, 3),
+    (65_539, 3),
+    (69_632, 3),
+    (u32::MAX, 3),
+];
+
 /// A call of an entry, with everything it is lent.
 pub trait Misusable: Clone {
     /// Every misuse that this call can meet.
@@ -86,7 +104,7 @@ pub fn fewer(mask: u32) -> u32 {
     mask & mask.saturating_sub(1)
 }
 
-/// Another value within the limit.
-pub fn next(value: &mut u32, limit: u32) {
-    *value = *value % limit + 1;
+/// Another value within the limit: so many further, then from 1 again.
+pub fn further(value: &mut u32, by: u32, limit: u32) {
+    *value = (*value + by - 1) % limit + 1;
 }

@@ -6,8 +6,8 @@ use paddockyear_tests::boards::damage::Forgery;
 use paddockyear_tests::boards::*;
 use paddockyear_tests::random::Random;
 use paddockyear_tests::reference::drawing::{drawn_mask, drawn_sides, seed};
-use paddockyear_tests::reference::judge::{Judging, JUDGINGS};
-use paddockyear_tests::reference::terms::{difference, sum, Opening, Parameters};
+use paddockyear_tests::reference::judge::{Fault, Judging, JUDGINGS};
+use paddockyear_tests::reference::terms::{difference, sorted, sum, Opening, Parameters};
 use paddockyear_tests::reference::writer::Secrets;
 
 const M: u32 = 100;
@@ -55,11 +55,12 @@ fn rule_1_and_17_the_length() {
 #[test]
 fn rule_3_limits() {
     let random = &mut Random::new(101);
-    for (modulus, n, m) in [(2, 1, 1), (u32::MAX, 1, 12), (2, 1024, 1), (2, 2, 12)] {
+    let many = MANY.map(|n| (2, n, 1));
+    for (modulus, n, m) in many.into_iter().chain([(2, 1, 1), (u32::MAX, 1, 12), (2, 2, 12)]) {
         let record = honest(random, Parameters { modulus, n, m }, BOTH).record();
         accepted(&record);
     }
-    for (place, bytes) in [(1, &[0, 0, 0, 1][..]), (1, &[0; 4]), (5, &[0, 0]), (5, &[4, 1])] {
+    for (place, bytes) in [(1, &[0, 0, 0, 1][..]), (1, &[0; 4]), (5, &[0, 0]), (5, &[16, 1])] {
         check(101, 3, |f| f.set(place, bytes));
     }
     for m in [0, 13, 14, 255] {
@@ -70,11 +71,25 @@ fn rule_3_limits() {
 /// Only the limits are tested in 01: a larger n or m makes the next due byte wrong.
 #[test]
 fn rule_3_does_not_look_at_the_length() {
-    check(102, 2, |f| f.set(5, &[4, 0]));
-    check(102, 1, |f| {
-        f.set(5, &[4, 0]);
-        f.cut(8);
-    });
+    for n in [1024u16, 1025, 4096] {
+        check(102, 2, |f| f.set(5, &n.to_be_bytes()));
+        check(102, 1, |f| {
+            f.set(5, &n.to_be_bytes());
+            f.cut(8);
+        });
+    }
+}
+
+/// Every n around its limit and some of those above, in a record that stops behind it.
+#[test]
+fn rule_3_every_n() {
+    for n in (0..5_000).chain((5_000..=u16::MAX).step_by(53)) {
+        let record = first_command(n);
+        let (number, place) = if (1..=4096).contains(&n) { (1, 8) } else { (3, 0) };
+        for judging in JUDGINGS {
+            assert_eq!(judge(&record, judging), Err(Fault { number, place }), "n = {n}");
+        }
+    }
 }
 
 #[test]
@@ -183,7 +198,7 @@ fn rule_9_link_positions() {
     check(108, 0, |f| assert!(f.secrets.places[1].contains(&2)));
     for rank in 0..2 {
         for ballot in 0..3 {
-            for position in [3u16, 4, 256, 1023, 1024, 65_535] {
+            for position in [3u16, 4, 256, 1023, 1024, 4095, 4096, 65_535] {
                 let place = layout.link(rank, ballot) + 4;
                 check(108, 9, |f| f.set(place, &position.to_be_bytes()));
             }
@@ -366,6 +381,24 @@ fn rule_16_counts() {
             let found = verdict.map_or_else(|fault| (fault.number, fault.place), |_| (0, 0));
             let place = if number == 16 { layout.full_opening(0, 2) } else { 0 };
             assert_eq!(found, (number, place));
+        }
+    }
+}
+
+/// A vote that differs from the list's value by one bit, whichever.
+#[test]
+fn rule_16_every_bit() {
+    let random = &mut Random::new(120);
+    let mut inputs = inputs(random, Parameters { modulus: u32::MAX, ..SHAPE });
+    inputs.votes = vec![0x0102_0304, 0x1122_3344, 0x7654_3210];
+    let fault = Fault { number: 16, place: Layout::new(&SHAPE).full_opening(0, 2) };
+    for bit in 0..32 {
+        let mut forgery = Forgery::new(Secrets::new(&inputs), MASK);
+        forgery.secrets.votes[1] ^= 1 << bit;
+        forgery.secrets.votes = sorted(&forgery.secrets.votes);
+        for judging in JUDGINGS {
+            let record = forgery.record(random, judging);
+            assert_eq!(judge(&record, judging), Err(fault), "bit {bit}");
         }
     }
 }

@@ -78,20 +78,38 @@ fn random_boards_with_random_faults() {
     }
 }
 
-/// High bytes of the operands and ballot numbers of four digits.
-#[test]
-fn faults_far_behind() {
-    let random = &mut Random::new(23);
-    let parameters = Parameters { modulus: u32::MAX, n: 1024, m: 1 };
-    let secrets = Secrets::new(&inputs(random, parameters));
-    let names = ["the other side", "third key", "t above", "vote falls", "value below"];
-    for one in breaches(Judging::Drawn).into_iter().filter(|one| names.contains(&one.name)) {
-        let target = Target { ballot: 1010, list: 1, position: 1000, rank: 0, opened: 0 };
-        let mut forgery = Forgery::new(secrets.clone(), 0b10);
+/// Each way of these names in a drawn board of this shape, the first lists being opened.
+fn far_faults(random: &mut Random, (n, m): (u32, u32), target: Target, names: &[&str]) {
+    let secrets = Secrets::new(&inputs(random, Parameters { modulus: u32::MAX, n, m }));
+    let ways = breaches(Judging::Drawn).into_iter().filter(|one| names.contains(&one.name));
+    let mut checked = 0;
+    for one in ways {
+        let mut forgery = Forgery::new(secrets.clone(), (1 << 2 * m) - (1 << m));
         let due = breach(&mut forgery, &target, &[one]);
         let record = forgery.record(random, Judging::Drawn);
         assert_eq!(judge(&record, Judging::Drawn), Err(due), "{}", one.name);
+        checked += 1;
     }
+    assert!(checked >= names.len());
+}
+
+/// High bytes of the operands and ballot numbers of four digits.
+#[test]
+fn faults_far_behind() {
+    let target = Target { ballot: 1010, list: 1, position: 1000, rank: 0, opened: 0 };
+    let names = ["the other side", "third key", "t above", "vote falls", "value below"];
+    far_faults(&mut Random::new(23), (1024, 1), target, &names);
+}
+
+/// The last ballot of the most, and the last opening of the last opened list.
+#[test]
+fn faults_of_many_ballots() {
+    let random = &mut Random::new(30);
+    let target = Target { ballot: 4095, list: 1, position: 4094, rank: 0, opened: 0 };
+    far_faults(random, (4096, 1), target, &["the other side", "another vote", "value below"]);
+    let target = Target { ballot: 1024, list: 3, position: 1023, rank: 1, opened: 1 };
+    let names = ["t below", "another vote", "position taken", "position n", "value above"];
+    far_faults(random, (1025, 2), target, &names);
 }
 
 /// Every proper prefix is 1, at the command that it cuts.

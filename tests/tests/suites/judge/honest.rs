@@ -46,7 +46,8 @@ fn of_every_shape() {
 #[test]
 fn with_many_ballots() {
     let random = &mut Random::new(11);
-    for (n, m) in [(99, 2), (100, 1), (256, 1), (257, 1), (1000, 1), (1024, 1), (1024, 12)] {
+    let shapes = [(99, 2), (100, 1), (256, 1), (1000, 1), (1024, 1), (1025, 3), (4096, 12)];
+    for (n, m) in MANY.map(|n| (n, 1)).into_iter().chain(shapes) {
         let board = honest(random, Parameters { modulus: u32::MAX, n, m }, BOTH);
         accepted(&board, Judging::Plain);
         accepted(&board, Judging::Drawn);

@@ -1,6 +1,7 @@
 //! For each rule of the parts the last accepted and the first refused value.
 
-use super::answer;
+use super::{answer, calls, check};
+use paddockyear_tests::boards::calls::misuse::LIMITS_OF_N;
 use paddockyear_tests::boards::calls::parts::{PartCall, KINDS};
 use paddockyear_tests::boards::still_inputs;
 use paddockyear_tests::random::Random;
@@ -9,21 +10,6 @@ use paddockyear_tests::reference::terms::Parameters;
 const M: u32 = 100;
 const SHAPE: Parameters = Parameters { modulus: M, n: 3, m: 2 };
 
-/// A call of each kind.
-fn calls(seed: u64, parameters: Parameters) -> Vec<PartCall> {
-    let random = &mut Random::new(seed);
-    KINDS.iter().map(|&kind| PartCall::honest(random, parameters, kind)).collect()
-}
-
-/// The call answers `number`, 0 for done, after this change.
-#[track_caller]
-fn check(call: &PartCall, number: u8, change: impl Fn(&mut PartCall)) {
-    let mut call = call.clone();
-    change(&mut call);
-    let kind = (call.part, call.draws);
-    assert_eq!(answer(call), number, "{kind:?}");
-}
-
 /// Every slice is as long as the parameters ask for, and nothing else is broken.
 #[test]
 fn rule_3_limits() {
@@ -31,20 +17,31 @@ fn rule_3_limits() {
     for (modulus, n, m, number) in [
         (2, 1, 1, 0),
         (u32::MAX, 1, 12, 0),
-        (2, 1024, 1, 0),
+        (2, 1025, 1, 0),
+        (2, 4096, 1, 0),
         (u32::MAX, 1024, 12, 0),
         (1, 1, 1, 3),
         (0, 1, 1, 3),
         (2, 0, 1, 3),
-        (2, 1025, 1, 3),
+        (2, 4097, 1, 3),
         (2, 1, 0, 3),
         (2, 1, 13, 3),
-        (1, 1025, 13, 3),
+        (1, 0, 13, 3),
     ] {
         for kind in KINDS {
             let inputs = still_inputs(random, Parameters { modulus, n, m });
             let call = PartCall::of(random, inputs, kind);
             assert_eq!(answer(call), number, "{kind:?}: {modulus} {n} {m}");
+        }
+    }
+}
+
+/// Before 18.
+#[test]
+fn rule_3_n_alone() {
+    for call in calls(229, SHAPE) {
+        for (n, number) in LIMITS_OF_N {
+            check(&call, number, |call| call.inputs.parameters.n = n);
         }
     }
 }
@@ -86,16 +83,6 @@ fn rule_5_ids() {
         ] {
             check(&call, number, |call| call.inputs.ids = ids.to_vec());
         }
-    }
-}
-
-/// The last pair of many ids.
-#[test]
-fn rule_5_many_ids() {
-    for call in calls(213, Parameters { modulus: M, n: 1024, m: 1 }) {
-        check(&call, 0, |call| call.inputs.ids = (0..1024).collect());
-        check(&call, 5, |call| call.inputs.ids = (0..1023).chain([1022]).collect());
-        check(&call, 5, |call| call.inputs.ids = (0..511).chain([510]).chain(512..1024).collect());
     }
 }
 
@@ -199,7 +186,7 @@ fn rule_19_permutations() {
     for call in calls(225, SHAPE) {
         for place in 0..call.inputs.permutations.len() {
             let from = call.inputs.permutations[place];
-            for other in [0, 1, 2, 3, 4, 256, 1023, 1024, u16::MAX] {
+            for other in [0, 1, 2, 3, 4, 256, 1023, 1024, 4095, 4096, u16::MAX] {
                 let number = if other == from { 0 } else { 19 };
                 check(&call, number, |call| call.inputs.permutations[place] = other);
             }
@@ -232,22 +219,22 @@ fn rule_19_fewest_and_most_places() {
             check(&call, 19, |call| call.inputs.permutations[place] = 1);
         }
     }
-    for call in calls(228, Parameters { modulus: M, n: 1024, m: 1 }) {
-        for start in [0, 5 * 1024] {
-            for rows in [(0..1024).collect::<Vec<u16>>(), (0..1024).rev().collect()] {
+    for call in calls(228, Parameters { modulus: M, n: 4096, m: 1 }) {
+        for start in [0, 5 * 4096] {
+            for rows in [(0..4096).collect::<Vec<u16>>(), (0..4096).rev().collect()] {
                 check(&call, 0, |call| {
-                    call.inputs.permutations[start..][..1024].copy_from_slice(&rows);
+                    call.inputs.permutations[start..][..4096].copy_from_slice(&rows);
                 });
                 check(&call, 19, |call| {
-                    call.inputs.permutations[start..][..1024].copy_from_slice(&rows);
-                    call.inputs.permutations[start + 1023] = rows[0];
+                    call.inputs.permutations[start..][..4096].copy_from_slice(&rows);
+                    call.inputs.permutations[start + 4095] = rows[0];
                 });
             }
         }
         check(&call, 19, |call| {
             let permutations = &mut call.inputs.permutations;
-            let last = permutations.iter_mut().rfind(|place| **place == 1023).unwrap();
-            *last = 1024;
+            let last = permutations.iter_mut().rfind(|place| **place == 4095).unwrap();
+            *last = 4096;
         });
     }
 }

@@ -5,9 +5,11 @@ use std::collections::BTreeSet;
 use super::run;
 use crate::subject::mask_entry;
 use paddockyear_tests::boards::calls::draw::DrawCall;
-use paddockyear_tests::boards::calls::misuse::{check_each, check_pairs, misuse_at_random};
+use paddockyear_tests::boards::calls::misuse::{
+    check_each, check_pairs, misuse_at_random, LIMITS_OF_N,
+};
 use paddockyear_tests::boards::calls::parts::PartCall;
-use paddockyear_tests::boards::{modulus, parameters, BOTH};
+use paddockyear_tests::boards::{modulus, parameters, BOTH, MANY};
 use paddockyear_tests::random::Random;
 use paddockyear_tests::reference::terms::{mask_stands, Parameters};
 use paddockyear_tests::reference::writer::mask_of;
@@ -21,18 +23,31 @@ fn answer(call: DrawCall) -> u8 {
 }
 
 /// It is the mask that part two draws from the same dice and the same part one.
+fn part_two_draws_it(random: &mut Random, n: u32, m: u32) {
+    let modulus = modulus(random);
+    let mut two = PartCall::honest(random, Parameters { modulus, n, m }, (2, BOTH));
+    run(&mut two).unwrap();
+    let mask = mask_entry(&two.inputs.parameters, &two.dice, &two.part_one).unwrap();
+    assert_eq!(mask, mask_of(&two.out));
+    assert!(mask_stands(m, mask));
+}
+
 #[test]
 fn part_two_draws_the_same() {
     let random = &mut Random::new(220);
     for m in 1..=12 {
         for _ in 0..12 {
-            let (modulus, n) = (modulus(random), 1 + random.number(9));
-            let mut two = PartCall::honest(random, Parameters { modulus, n, m }, (2, BOTH));
-            run(&mut two).unwrap();
-            let mask = mask_entry(&two.inputs.parameters, &two.dice, &two.part_one).unwrap();
-            assert_eq!(mask, mask_of(&two.out));
-            assert!(mask_stands(m, mask));
+            let n = 1 + random.number(9);
+            part_two_draws_it(random, n, m);
         }
+    }
+}
+
+#[test]
+fn part_two_draws_the_same_of_many_ballots() {
+    let random = &mut Random::new(275);
+    for n in MANY {
+        part_two_draws_it(random, n, 3);
     }
 }
 
@@ -60,7 +75,7 @@ fn what_counts() {
 #[test]
 fn refusals() {
     let random = &mut Random::new(222);
-    for (n, m) in [(1, 1), (3, 2), (4, 12), (1024, 1), (1024, 12)] {
+    for (n, m) in [(1, 1), (3, 2), (4, 12), (1024, 12), (4096, 1)] {
         check_each(&DrawCall::honest(random, Parameters { modulus: 100, n, m }), answer);
     }
     for (n, m) in [(1, 1), (3, 2)] {
@@ -82,18 +97,38 @@ fn limits() {
     let random = &mut Random::new(223);
     for (modulus, n, m, number) in [
         (2, 1, 1, 0),
-        (u32::MAX, 1024, 1, 0),
+        (u32::MAX, 1025, 1, 0),
+        (u32::MAX, 4096, 1, 0),
         (2, 1024, 12, 0),
         (1, 1, 1, 3),
         (0, 1, 1, 3),
         (2, 0, 1, 3),
-        (2, 1025, 1, 3),
+        (2, 4097, 1, 3),
         (2, 1, 0, 3),
         (2, 1, 13, 3),
     ] {
         let call = DrawCall::honest(random, Parameters { modulus, n, m });
         assert_eq!(answer(call), number, "{modulus} {n} {m}");
     }
+}
+
+/// Before 18.
+#[test]
+fn limits_of_n() {
+    let random = &mut Random::new(276);
+    let call = DrawCall::honest(random, Parameters { modulus: 9, n: 3, m: 1 });
+    for (n, number) in LIMITS_OF_N {
+        let parameters = Parameters { n, ..call.parameters };
+        assert_eq!(answer(DrawCall { parameters, ..call.clone() }), number, "n = {n}");
+    }
+}
+
+/// The longest part one that a mask is drawn on.
+#[test]
+fn longest_of_many_ballots() {
+    let call = DrawCall::honest(&mut Random::new(277), Parameters { modulus: 2, n: 4096, m: 12 });
+    assert_eq!(call.part_one.len(), 20_074_504);
+    assert_eq!(answer(call), 0);
 }
 
 #[test]

@@ -6,7 +6,9 @@ mod records;
 mod refusals;
 
 use crate::subject::{part_one, part_three, part_two};
-use paddockyear_tests::boards::calls::parts::PartCall;
+use paddockyear_tests::boards::calls::parts::{PartCall, KINDS};
+use paddockyear_tests::random::Random;
+use paddockyear_tests::reference::terms::Parameters;
 use paddockyear_tests::reference::writer::{MaskSource, SidesSource};
 
 fn run(call: &mut PartCall) -> Result<(), u8> {
@@ -33,4 +35,19 @@ fn answer(mut call: PartCall) -> u8 {
     let out = if answer.is_ok() { call.out.clone() } else { before.out.clone() };
     assert!(call == PartCall { out, ..before });
     answer.map_or_else(|number| number, |()| 0)
+}
+
+/// A call of each kind.
+fn calls(seed: u64, parameters: Parameters) -> Vec<PartCall> {
+    let random = &mut Random::new(seed);
+    KINDS.iter().map(|&kind| PartCall::honest(random, parameters, kind)).collect()
+}
+
+/// The call answers `number`, 0 for done, after this change.
+#[track_caller]
+fn check(call: &PartCall, number: u8, change: impl Fn(&mut PartCall)) {
+    let mut call = call.clone();
+    change(&mut call);
+    let kind = (call.part, call.draws);
+    assert_eq!(answer(call), number, "{kind:?}");
 }

@@ -77,12 +77,12 @@ fn of_every_number_of_lists() {
 #[test]
 fn of_many_ballots() {
     let random = &mut Random::new(202);
-    for n in [257, 1000, 1024] {
+    for n in MANY.into_iter().chain([1000, 1024]) {
         for draws in [NEITHER, BOTH] {
             check_shape(random, n, 1, draws);
         }
     }
-    check_shape(random, 1024, 12, BOTH);
+    check_shape(random, 4096, 12, BOTH);
 }
 
 /// Numbers at both ends of their range, so that sums wrap or just do not.
