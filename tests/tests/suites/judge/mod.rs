@@ -3,6 +3,7 @@
 mod boundaries;
 mod damaged;
 mod honest;
+mod many_ballots;
 
 use crate::subject::judge;
 use paddockyear_tests::reference::judge::Judging;

@@ -2,6 +2,7 @@
 
 mod boundaries;
 mod draw;
+mod many_ballots;
 mod records;
 mod refusals;
 

@@ -1,0 +1,82 @@
+//! Calls with more ballots than a byte counts, up to the most: what is refused far behind.
+
+use super::{answer, calls, check, run};
+use paddockyear_tests::boards::calls::misuse::check_each;
+use paddockyear_tests::boards::calls::parts::PartCall;
+use paddockyear_tests::boards::{mistaken, BOTH, FAR_PLACES};
+use paddockyear_tests::random::Random;
+use paddockyear_tests::reference::terms::Parameters;
+
+const M: u32 = 100;
+const MOST: usize = 4096;
+
+fn most_ballots(seed: u64) -> Vec<PartCall> {
+    calls(seed, Parameters { modulus: M, n: MOST as u32, m: 1 })
+}
+
+/// With another value at this place of what it is given, the call is refused. It is changed back,
+/// since copies of many ballots take time.
+#[track_caller]
+fn refused<T>(
+    call: &mut PartCall,
+    number: u8,
+    place: impl Fn(&mut PartCall) -> &mut T,
+    mut other: T,
+) {
+    std::mem::swap(place(call), &mut other);
+    assert_eq!(run(call), Err(number), "{:?}", (call.part, call.draws));
+    std::mem::swap(place(call), &mut other);
+}
+
+/// Of the kind that is lent most.
+#[test]
+fn every_misuse() {
+    let parameters = Parameters { modulus: M, n: MOST as u32, m: 1 };
+    check_each(&PartCall::honest(&mut Random::new(270), parameters, (3, BOTH)), answer);
+}
+
+/// An id that is not above the one before, far behind.
+#[test]
+fn rule_5_ids() {
+    for mut call in most_ballots(271) {
+        check(&call, 0, |call| call.inputs.ids = (0..MOST as u32).collect());
+        for ballot in [256, 1024, 1025, MOST - 1] {
+            let before = call.inputs.ids[ballot - 1];
+            refused(&mut call, 5, |call| &mut call.inputs.ids[ballot], before);
+        }
+    }
+}
+
+/// Votes, ballots' numbers, the first halves of the last list, and sides.
+#[test]
+fn rules_10_and_11_far_numbers() {
+    for mut call in most_ballots(272) {
+        let before = call.clone();
+        for ballot in [256, 1024, MOST - 1] {
+            refused(&mut call, 10, |call| &mut call.inputs.votes[ballot], M);
+            refused(&mut call, 10, |call| &mut call.inputs.numbers[5 * ballot], M);
+            refused(&mut call, 10, |call| &mut call.inputs.numbers[20 * MOST + 3 * ballot], M);
+            if call.has_sides() {
+                refused(&mut call, 11, |call| &mut call.sides[ballot], 2);
+            }
+        }
+        assert!(call == before);
+    }
+}
+
+/// A place that another one is taken for stands twice, or is none.
+#[test]
+fn rule_19_far_places() {
+    let former = calls(273, Parameters { modulus: M, n: 1025, m: 1 });
+    for mut call in former.into_iter().chain(most_ballots(274)) {
+        let before = call.clone();
+        let n = call.inputs.parameters.ballots();
+        let far = FAR_PLACES.into_iter().filter(|&at| at < n);
+        for at in far.flat_map(|at| [at, 5 * n + at]) {
+            for other in mistaken(call.inputs.permutations[at]) {
+                refused(&mut call, 19, |call| &mut call.inputs.permutations[at], other);
+            }
+        }
+        assert!(call == before);
+    }
+}
