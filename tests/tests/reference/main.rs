@@ -16,6 +16,8 @@ mod results;
 #[path = "../suites/runoff.rs"]
 mod runoff;
 mod samples;
+#[path = "../suites/stored.rs"]
+mod stored;
 #[path = "../suites/tablet.rs"]
 mod tablet;
 

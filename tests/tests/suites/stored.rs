@@ -1,0 +1,138 @@
+//! Stored records: one of up to 1,024 ballots has the verdict, by number and place, that it had
+//! when that was n's limit; of more it was 3. The reference judges with either limit.
+
+use std::collections::BTreeSet;
+
+use crate::subject::judge;
+use paddockyear_tests::boards::damage::{
+    breach, breaches, damaged_within, Breach, Forgery, Target,
+};
+use paddockyear_tests::boards::samples::stored;
+use paddockyear_tests::boards::{honest, inputs, BOTH};
+use paddockyear_tests::random::Random;
+use paddockyear_tests::reference::judge::{judge_within, Fault, Judging, JUDGINGS};
+use paddockyear_tests::reference::terms::{sorted, Parameters, FORMER_MAX_BALLOTS, MAX_BALLOTS};
+use paddockyear_tests::reference::writer::Secrets;
+
+/// The verdict on a record of n ballots, which is the same with n and with 1,024 as the limit. With
+/// less it is 3, unless the first command has a fault that comes before.
+fn kept_verdict(record: &[u8], n: u32, judging: Judging) -> Result<Vec<u32>, Fault> {
+    let verdict = judge(record, judging);
+    for limit in BTreeSet::from([n, FORMER_MAX_BALLOTS]) {
+        assert_eq!(judge_within(limit, record, judging), verdict, "limit {limit}");
+    }
+    let in_first_command = verdict.as_ref().is_err_and(|fault| fault.place == 0);
+    let limits = Err(Fault { number: 3, place: 0 });
+    let due = if in_first_command { &verdict } else { &limits };
+    assert_eq!(judge_within(n - 1, record, judging), *due, "limit {}", n - 1);
+    verdict
+}
+
+#[test]
+fn of_the_folder() {
+    for (name, record) in stored().unwrap() {
+        let n = u32::from(u16::from_be_bytes([record[5], record[6]]));
+        assert!((1..=FORMER_MAX_BALLOTS).contains(&n), "{name}");
+        for judging in JUDGINGS {
+            let verdict = kept_verdict(&record, n, judging);
+            let honest = !name.starts_with("refused-");
+            assert!(judging == Judging::Plain || verdict.is_ok() == honest, "{name}");
+        }
+    }
+}
+
+#[test]
+fn of_few_ballots() {
+    let random = &mut Random::new(290);
+    for n in 1..=40 {
+        let board = honest(random, Parameters { modulus: 100, n, m: 1 + n % 3 }, BOTH);
+        for judging in JUDGINGS {
+            let votes = sorted(&board.inputs.votes);
+            assert_eq!(kept_verdict(&board.record(), n, judging), Ok(votes));
+        }
+    }
+}
+
+#[test]
+fn of_many_ballots() {
+    let random = &mut Random::new(291);
+    for n in [255, 256, 257, 1023, 1024] {
+        let board = honest(random, Parameters { modulus: u32::MAX, n, m: 1 }, BOTH);
+        for judging in JUDGINGS {
+            let votes = sorted(&board.inputs.votes);
+            assert_eq!(kept_verdict(&board.record(), n, judging), Ok(votes));
+        }
+    }
+}
+
+/// A board of these parameters, damaged in this way.
+fn kept_fault(random: &mut Random, parameters: Parameters, way: Breach, judging: Judging) {
+    let secrets = Secrets::new(&inputs(random, parameters));
+    let target = Target::any(random, &parameters);
+    let mut forgery = Forgery::new(secrets, random.mask(parameters.m));
+    let due = breach(&mut forgery, &target, &[way]);
+    let verdict = kept_verdict(&forgery.record(random, judging), parameters.n, judging);
+    assert_eq!(verdict, Err(due), "{:02X} {}", way.command, way.name);
+}
+
+#[test]
+fn damaged_in_every_way() {
+    let random = &mut Random::new(292);
+    for judging in JUDGINGS {
+        for way in breaches(judging) {
+            for (n, m) in [(2, 1), (3, 2), (40, 1)] {
+                kept_fault(random, Parameters { modulus: 100, n, m }, way, judging);
+            }
+        }
+    }
+}
+
+/// Two faults or one, n = 1,025 being one of them: of all verdicts only that one is another now.
+#[test]
+fn damaged_at_random() {
+    let random = &mut Random::new(293);
+    let mut others = 0;
+    for judging in JUDGINGS {
+        for _ in 0..500 {
+            let (record, due) = damaged_within(FORMER_MAX_BALLOTS, random, (9, 3), judging);
+            assert_eq!(judge_within(FORMER_MAX_BALLOTS, &record, judging), Err(due));
+            let stands = due.number == 3 && record[5..7] == [4, 1];
+            let found = judge(&record, judging);
+            assert_eq!(found == Err(due), !stands, "{due:?}");
+            others += usize::from(stands);
+        }
+    }
+    assert!(others > 0);
+}
+
+/// One way for each rule of each command, on as many ballots as there were at most.
+#[test]
+fn damaged_of_many_ballots() {
+    let random = &mut Random::new(294);
+    let mut met = BTreeSet::new();
+    let parameters = Parameters { modulus: u32::MAX, n: FORMER_MAX_BALLOTS, m: 1 };
+    for way in breaches(Judging::Plain) {
+        if met.insert((way.command, way.number)) {
+            kept_fault(random, parameters, way, Judging::Plain);
+        }
+    }
+    assert_eq!(met.len(), 47);
+}
+
+/// More ballots were refused, and stand.
+#[test]
+fn above_the_former_limit_of_many_ballots() {
+    let random = &mut Random::new(295);
+    for n in [FORMER_MAX_BALLOTS + 1, MAX_BALLOTS] {
+        let board = honest(random, Parameters { modulus: u32::MAX, n, m: 1 }, BOTH);
+        let (record, votes) = (board.record(), Ok(sorted(&board.inputs.votes)));
+        for judging in JUDGINGS {
+            assert_eq!(judge(&record, judging), votes);
+            assert_eq!(judge_within(n, &record, judging), votes);
+            for limit in [FORMER_MAX_BALLOTS, n - 1] {
+                let fault = Fault { number: 3, place: 0 };
+                assert_eq!(judge_within(limit, &record, judging), Err(fault), "limit {limit}");
+            }
+        }
+    }
+}
