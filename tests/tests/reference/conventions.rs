@@ -8,7 +8,7 @@ use paddockyear_tests::reference::drawing::{drawn_mask, drawn_sides, seed};
 use paddockyear_tests::reference::judge::{judge, Judging};
 use paddockyear_tests::reference::sha3::sha3_256;
 use paddockyear_tests::reference::tablet::receipt;
-use paddockyear_tests::reference::terms::{Opening, Parameters};
+use paddockyear_tests::reference::terms::{sorted, Opening, Parameters};
 use paddockyear_tests::reference::writer::Inputs;
 
 const DICE: &[u8; 30] = b"123456123456123456123456123456";
@@ -29,10 +29,12 @@ fn commitment() {
 fn seeds_masks_and_sides() {
     assert_eq!(seed(DICE, b"abc"), Q);
     assert_eq!([1, 2, 3, 12].map(|m| drawn_mask(m, Q)), [1, 12, 49, 3_396_806]);
-    let sides: String = drawn_sides(1024, Q).iter().map(u8::to_string).collect();
+    let sides: String = drawn_sides(4096, Q).iter().map(u8::to_string).collect();
     assert_eq!(sides[..40], *"0010011110101110000110101100110110010010");
-    assert_eq!(sides[999..], *"1000010001001101001110101");
-    assert_eq!(sides.matches('1').count(), 515);
+    assert_eq!(sides[999..1024], *"1000010001001101001110101");
+    assert_eq!(sides[..1024].matches('1').count(), 515);
+    assert_eq!(sides[4056..], *"1101100010010110011100000111100110100110");
+    assert_eq!(sides.matches('1').count(), 2006);
 }
 
 /// Three ballots and two lists, every permutation another.
@@ -61,4 +63,36 @@ fn record() {
         hex(&receipt(7, &record[8..205])),
         "000000072040116a0076eb613787e5674cc721f1caca63328dc001c4dfd7feec"
     );
+}
+
+/// Two lists of n ballots, n being a power of two, with places, keys and numbers of every width.
+fn many_inputs(n: u32) -> Inputs {
+    let (modulus, wide): (u32, u64) = (4_000_000_007, n.into());
+    let number = |k: u64| ((k * 2_654_435_761 + 11) % u64::from(modulus)) as u32;
+    let place = |c: u32, i: u32| (((6 * c + 5) * i + 77 * c + 1000) % n) as u16;
+    let key = |k: u32| (0..32u32).map(move |at| ((k >> (8 * (at % 3))) + 5 * at) as u8);
+    Inputs {
+        parameters: Parameters { modulus, n, m: 1 },
+        ids: (0..n).map(|j| 7 + 1_000_003 * j).collect(),
+        votes: (0..wide).map(|j| number(j * j)).collect(),
+        numbers: (1..=23 * wide).map(number).collect(),
+        permutations: (0..6).flat_map(|c| (0..n).map(move |i| place(c, i))).collect(),
+        keys: (1..=18 * n).flat_map(key).collect(),
+    }
+}
+
+/// Every byte of the largest record with two lists, and of the largest that document 01 knew before
+/// document 02's item 3.
+#[test]
+fn records_of_many_ballots() {
+    let dice = [DICE.to_vec(), b"654321".repeat(5)];
+    for (n, digest) in [
+        (1024, "74ba357a1abdeb772ac2bc0b47d3634d97669e6c621388ff8f85dba3486c68d7"),
+        (4096, "65a4e3241dfe6dc506dca2a2b8040bfe63650c41cf08ec1cfa8111b386c6322c"),
+    ] {
+        let inputs = many_inputs(n);
+        let record = board_with_dice(&mut Random::new(61), &inputs, &dice, BOTH).record();
+        assert_eq!(hex(&sha3_256(&record)), digest, "{n} ballots");
+        assert_eq!(judge(&record, Judging::Drawn), Ok(sorted(&inputs.votes)));
+    }
 }
