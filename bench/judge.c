@@ -5,7 +5,7 @@
 #include <stdlib.h>
 #include <string.h>
 
-enum { MAX_BALLOTS = 1024, MAX_M = 12, DICE = 30, SEED = 86 };
+enum { MAX_BALLOTS = 4096, MAX_M = 12, DICE = 30, SEED = 86 };
 enum { COMMITMENT = 32, OPENING = 36 };
 
 enum refusal {

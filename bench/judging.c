@@ -1,6 +1,6 @@
 /* Times of the product's judge and of the C judge over OpenSSL, both as drawn, taken in turn in one
- * run: their ratios, the growth from n to 2n, and the stack that the product's judge uses. The
- * boards come from standard input. */
+ * run: their ratios, the growth from board to board and from the first to the last, and the stack
+ * that the product's judge uses. The boards come from standard input. */
 
 #include "judge.h"
 #include "paddockyear.h"
@@ -8,7 +8,10 @@
 
 #include <stdio.h>
 
-enum { REPETITIONS = 20, MAX_BOARDS = 8 };
+#define RATIO_AIM 0.85
+#define GROWTH_AIM 4.2
+
+enum { REPETITIONS = 30, MAX_BOARDS = 8 };
 
 static struct posted boards[MAX_BOARDS];
 static struct row {
@@ -49,15 +52,25 @@ static unsigned ballots(int i) { return (unsigned)boards[i].record[5] << 8 | boa
 
 static void print_times(void) {
     for (int i = 0; i < count; i++) {
-        printf("Judging n = %4u, m = %2u   ours %9.3f ms   C judge %9.3f ms   ratio %.3f\n",
+        printf("Judging n = %4u, m = %2u   ours %9.3f ms   C judge %9.3f ms   ratio %.3f",
                ballots(i), boards[i].record[7], 1e3 * rows[i].ours, 1e3 * rows[i].plain_c,
                rows[i].ours / rows[i].plain_c);
+        printf(" (aim: at most %.2f)\n", RATIO_AIM);
     }
+}
+
+static void print_growth(int from, int to) {
+    printf("Growth from %4u to %4u   ours %9.3f      C judge %9.3f", ballots(from), ballots(to),
+           rows[to].ours / rows[from].ours, rows[to].plain_c / rows[from].plain_c);
+}
+
+static void print_growths(void) {
     for (int i = 1; i < count; i++) {
-        printf("Growth from %4u to %4u   ours %9.3f      C judge %9.3f\n", ballots(i - 1),
-               ballots(i), rows[i].ours / rows[i - 1].ours,
-               rows[i].plain_c / rows[i - 1].plain_c);
+        print_growth(i - 1, i);
+        printf("\n");
     }
+    print_growth(0, count - 1);
+    printf("   (aim for ours: at most %.1f)\n", GROWTH_AIM);
 }
 
 static void print_stack(void) {
@@ -67,7 +80,8 @@ static void print_stack(void) {
         size_t used = stack_of(ours);
         most = used > most ? used : most;
     }
-    printf("Stack of our judge         %zu bytes\n", most);
+    printf("Stack of our judge         %zu bytes (aim: at most %d)\n", most,
+           PADDOCKYEAR_STACK_JUDGING);
 }
 
 int main(void) {
@@ -75,6 +89,7 @@ int main(void) {
     read_boards();
     time_boards();
     print_times();
+    print_growths();
     print_stack();
     judge_stop();
     return 0;

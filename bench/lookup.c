@@ -1,6 +1,6 @@
-/* Times of the product's receipt lookup, for the first, the middle and the last id of a board, beside
- * those of its receipt check, which reads all ballots: their ratios, all from one run. Both hash the
- * one ballot that has the id; the second ratio is of what they take beside that hash. */
+/* Times of the product's receipt lookup, for the first, the middle and the last id of a board,
+ * beside those of its receipt check, which reads all ballots: their ratios, all from one run. Both
+ * hash the one ballot that has the id; the second ratio is of what they take beside that hash. */
 
 #include "paddockyear.h"
 #include "support.h"
@@ -11,20 +11,22 @@
 
 #define AIM 0.01
 
-enum { REPETITIONS = 40, CALLS = 50, BALLOTS = 1024, FIRST = 8, COMMAND = PADDOCKYEAR_COMMAND_LENGTH };
+enum { REPETITIONS = 40, CALLS = 50, MOST = 4096, FIRST = 8, COMMAND = PADDOCKYEAR_COMMAND_LENGTH };
 
-static uint8_t board[FIRST + BALLOTS * COMMAND], receipt[PADDOCKYEAR_RECEIPT_LENGTH];
+static uint8_t board[FIRST + MOST * COMMAND], receipt[PADDOCKYEAR_RECEIPT_LENGTH];
+static size_t length;
 
 static void put4(uint8_t *at, uint32_t x) {
     for (int i = 0; i < 4; i++) at[i] = (uint8_t)(x >> (24 - 8 * i));
 }
 
 /* The parameters and all ballots; neither lookup nor check looks into the commitments. */
-static void make_board(void) {
-    const uint8_t first[FIRST] = {1, 0, 0, 0, 100, BALLOTS >> 8, BALLOTS & 255, 12};
-    for (size_t i = 0; i < sizeof board; i++) board[i] = (uint8_t)(i * 167 >> 3);
+static void make_board(uint32_t n) {
+    const uint8_t first[FIRST] = {1, 0, 0, 0, 100, (uint8_t)(n >> 8), (uint8_t)n, 12};
+    length = FIRST + n * COMMAND;
+    for (size_t i = 0; i < length; i++) board[i] = (uint8_t)(i * 167 >> 3);
     memcpy(board, first, FIRST);
-    for (uint32_t j = 0; j < BALLOTS; j++) {
+    for (uint32_t j = 0; j < n; j++) {
         board[FIRST + j * COMMAND] = 2;
         put4(board + FIRST + j * COMMAND + 1, 3 * j + 1);
     }
@@ -37,13 +39,17 @@ static void take_receipt(uint32_t j) {
 }
 
 static void look_up(void) {
-    for (int i = 0; i < CALLS; i++)
-        demand(paddockyear_look_up(board, sizeof board, receipt, sizeof receipt) == 0, "the lookup answers otherwise");
+    for (int i = 0; i < CALLS; i++) {
+        uint32_t answer = paddockyear_look_up(board, length, receipt, sizeof receipt);
+        demand(answer == 0, "the lookup answers otherwise");
+    }
 }
 
 static void check(void) {
-    for (int i = 0; i < CALLS; i++)
-        demand(paddockyear_check_receipt(board, sizeof board, receipt, sizeof receipt) == 0, "the check answers otherwise");
+    for (int i = 0; i < CALLS; i++) {
+        uint32_t answer = paddockyear_check_receipt(board, length, receipt, sizeof receipt);
+        demand(answer == 0, "the check answers otherwise");
+    }
 }
 
 static void hash(void) {
@@ -52,7 +58,7 @@ static void hash(void) {
 }
 
 /* The best of each, taken in turn. */
-static void compare(const char *which, uint32_t j, const char *aim) {
+static void compare(uint32_t n, const char *which, uint32_t j, const char *aim) {
     double looking = INFINITY, checking = INFINITY, hashing = INFINITY;
     take_receipt(j);
     for (int i = 0; i < REPETITIONS; i++) {
@@ -60,17 +66,23 @@ static void compare(const char *which, uint32_t j, const char *aim) {
         checking = smaller(checking, time_once(check) / CALLS);
         hashing = smaller(hashing, time_once(hash) / CALLS);
     }
-    printf("Lookup of the %-6s id    ours %9.3f us   check   %9.3f us   ratio %.3f", which, 1e6 * looking, 1e6 * checking,
-           looking / checking);
-    printf(", beside the hash (%.3f us) %.3f%s\n", 1e6 * hashing, (looking - hashing) / (checking - hashing), aim);
+    printf("Lookup n = %4u, %-9s ours %9.3f us   check   %9.3f us   ratio %.3f", n, which,
+           1e6 * looking, 1e6 * checking, looking / checking);
+    printf(", beside the hash (%.3f us) %.3f%s\n", 1e6 * hashing,
+           (looking - hashing) / (checking - hashing), aim);
+}
+
+static void compare_ids(uint32_t n) {
+    char aim[40];
+    snprintf(aim, sizeof aim, " (aim: at most %.2f)", AIM);
+    make_board(n);
+    compare(n, "first id", 0, aim);
+    compare(n, "middle id", n / 2, "");
+    compare(n, "last id", n - 1, "");
 }
 
 int main(void) {
-    char aim[40];
-    snprintf(aim, sizeof aim, " (aim: at most %.2f)", AIM);
-    make_board();
-    compare("first", 0, aim);
-    compare("middle", BALLOTS / 2, "");
-    compare("last", BALLOTS - 1, "");
+    compare_ids(MOST / 4);
+    compare_ids(MOST);
     return 0;
 }

@@ -7,7 +7,7 @@
 #include <time.h>
 #include <ucontext.h>
 
-enum { STACK = 16 << 20, GUARD = 1 << 16, PAINT = 0xA5 };
+enum { STACK = 16 << 20, GUARD = 1 << 20, PAINT = 0xA5 };
 
 void demand(int holds, const char *what) {
     if (!holds) {
@@ -30,15 +30,18 @@ double time_once(void (*run)(void)) {
 
 double smaller(double a, double b) { return a < b ? a : b; }
 
-/* A stack with a page group below it that nobody may touch; made once. */
+uint8_t *guarded(size_t bytes) {
+    uint8_t *memory =
+        mmap(NULL, GUARD + bytes, PROT_READ | PROT_WRITE, MAP_PRIVATE | MAP_ANONYMOUS, -1, 0);
+    demand(memory != MAP_FAILED && mprotect(memory, GUARD, PROT_NONE) == 0, "no memory");
+    return memory + GUARD;
+}
+
+/* Made once. */
 static uint8_t *painted_stack(void) {
-    static uint8_t *memory;
-    if (memory == NULL) {
-        memory =
-            mmap(NULL, GUARD + STACK, PROT_READ | PROT_WRITE, MAP_PRIVATE | MAP_ANONYMOUS, -1, 0);
-        demand(memory != MAP_FAILED && mprotect(memory, GUARD, PROT_NONE) == 0, "no memory");
-    }
-    return memset(memory + GUARD, PAINT, STACK);
+    static uint8_t *stack;
+    if (stack == NULL) stack = guarded(STACK);
+    return memset(stack, PAINT, STACK);
 }
 
 /* How much of a painted stack a function touches. */

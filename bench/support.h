@@ -14,6 +14,10 @@ double seconds(void);
 double time_once(void (*run)(void));
 double smaller(double a, double b);
 
+/* Memory for a stack, above a region of 1 MiB that nobody may touch, so that no frame reaches
+ * beyond it: what needs more ends the program by a signal. */
+uint8_t *guarded(size_t bytes);
+
 /* The bytes of stack that a function touches, beyond what an empty one does. */
 size_t stack_of(void (*run)(void));
 

@@ -1,6 +1,7 @@
-/* Times of the product's writing of a whole record, mask and sides drawn, and of the hashes alone
+/* Times of the product's writing of whole records, mask and sides drawn, and of the hashes alone
  * that this takes, by the product's own SHA-3, taken in turn in one run: their ratio, the same of
- * each part, and the stack that the calls use. */
+ * each part, the growth from n to 2n and from the first n to the last, and the stack that the
+ * calls use at the last. */
 
 #include "judge.h"
 #include "paddockyear.h"
@@ -13,30 +14,43 @@
 #define MODULUS UINT32_MAX
 #define AIM 1.06
 
-enum { REPETITIONS = 20, PARTS = 3 };
-enum { BALLOTS = 1024, COMPARED = 12, LISTS = 2 * COMPARED, PLACES = COMPARED * BALLOTS };
-enum { DICE = 30, SEED = 86, OPENING = 36, COMMITMENTS = 6 * (BALLOTS + LISTS * BALLOTS) };
-enum {
-    PART_ONE = 8 + 197 * BALLOTS + 392 * PLACES,
-    PART_TWO = 35 + 10 * PLACES,
-    PART_THREE = 32 + 119 * BALLOTS + 332 * PLACES
-};
+enum { REPETITIONS = 30, PARTS = 3, BOARDS = 3, LEAST = 1024, MOST = LEAST << (BOARDS - 1) };
+enum { COMPARED = 12, LISTS = 2 * COMPARED, DICE = 30, SEED = 86, OPENING = 36 };
 
-/* An array as a lent slice, and the inputs of every part. */
+/* Of a ballot, and of an entry of each list. */
+enum { COMMITMENTS = 6 * (1 + LISTS) };
+
+/* An array as a lent slice: all of it, or as much as n ballots take. */
 #define LENT(array) (array), sizeof(array) / sizeof((array)[0])
-#define INPUTS                                                                                     \
-    MODULUS, BALLOTS, COMPARED, LENT(ids), LENT(votes), LENT(numbers), LENT(permutations),         \
-        LENT(keys)
+#define FIRST(kind, array) (array), PADDOCKYEAR_##kind##_LENGTH(n, COMPARED)
 
-static uint32_t ids[BALLOTS], votes[BALLOTS], numbers[5 * BALLOTS + 18 * PLACES];
-static uint16_t permutations[6 * PLACES];
-static uint8_t keys[192 * BALLOTS + 384 * PLACES];
-static uint8_t first_dice[DICE], second_dice[DICE], no_sides[BALLOTS];
-static uint8_t one[PART_ONE], two[PART_TWO], three[PART_THREE];
-static uint8_t joined[PART_ONE + PART_TWO + PART_THREE];
+/* The inputs; of those that all boards share, the smaller boards take the first ones. */
+static uint32_t ids[MOST], votes[BOARDS][MOST], numbers[PADDOCKYEAR_NUMBERS_LENGTH(MOST, COMPARED)];
+static uint16_t permutations[BOARDS][PADDOCKYEAR_PERMUTATIONS_LENGTH(MOST, COMPARED)];
+static uint8_t keys[PADDOCKYEAR_KEYS_LENGTH(MOST, COMPARED)];
+static uint8_t first_dice[DICE], second_dice[DICE], no_sides[MOST];
+
+static uint8_t one[PADDOCKYEAR_PART_ONE_LENGTH(MOST, COMPARED)];
+static uint8_t two[PADDOCKYEAR_PART_TWO_LENGTH(MOST, COMPARED)];
+static uint8_t three[PADDOCKYEAR_PART_THREE_LENGTH(MOST, COMPARED)];
+static uint8_t joined[PADDOCKYEAR_RECORD_LENGTH(MOST, COMPARED)];
 
 /* What is hashed alone: as many openings, and a message of the longest draw. */
-static uint8_t openings[COMMITMENTS][OPENING], message[4 + SEED + 1];
+static uint8_t openings[COMMITMENTS * MOST][OPENING], message[4 + SEED + 1];
+
+struct times {
+    double writing, hashing;
+};
+
+static struct board {
+    struct paddockyear_inputs in;
+    struct paddockyear_throws throws;
+    struct paddockyear_parts parts;
+    struct times part[PARTS];
+} boards[BOARDS];
+
+/* The one that is written. */
+static struct board *board;
 
 /* SplitMix64. */
 static uint64_t below(uint64_t bound) {
@@ -51,19 +65,17 @@ static void fill(uint8_t *bytes, size_t length, uint8_t least, uint32_t choices)
     for (size_t i = 0; i < length; i++) bytes[i] = (uint8_t)(least + below(choices));
 }
 
-static void shuffle(uint16_t permutation[BALLOTS]) {
-    for (uint32_t i = 0; i < BALLOTS; i++) {
+static void shuffle(uint16_t *permutation, uint32_t n) {
+    for (uint32_t i = 0; i < n; i++) {
         uint32_t j = (uint32_t)below(i + 1);
         permutation[i] = permutation[j];
         permutation[j] = (uint16_t)i;
     }
 }
 
-static void make_inputs(void) {
-    for (uint32_t i = 0; i < BALLOTS; i++) ids[i] = 3 * i;
-    for (uint32_t i = 0; i < BALLOTS; i++) votes[i] = (uint32_t)below(BALLOTS / 2);
-    for (size_t i = 0; i < 5 * BALLOTS + 18 * PLACES; i++) numbers[i] = (uint32_t)below(MODULUS);
-    for (size_t i = 0; i < 6 * PLACES; i += BALLOTS) shuffle(permutations + i);
+static void make_shared_inputs(void) {
+    for (uint32_t i = 0; i < MOST; i++) ids[i] = 3 * i;
+    for (size_t i = 0; i < sizeof numbers / 4; i++) numbers[i] = (uint32_t)below(MODULUS);
     fill(keys, sizeof keys, 0, 256);
     fill(first_dice, DICE, '1', 6);
     fill(second_dice, DICE, '1', 6);
@@ -71,37 +83,64 @@ static void make_inputs(void) {
     fill(message, sizeof message, '0', 10);
 }
 
+static void make_own_inputs(int i, uint32_t n) {
+    size_t places = PADDOCKYEAR_PERMUTATIONS_LENGTH(n, COMPARED);
+    for (uint32_t j = 0; j < n; j++) votes[i][j] = (uint32_t)below(n / 2);
+    for (size_t j = 0; j < places; j += n) shuffle(permutations[i] + j, n);
+}
+
+static struct board lent_board(int i, uint32_t n) {
+    const struct times none = {INFINITY, INFINITY};
+    struct board of = {.part = {none, none, none}};
+    of.in = (struct paddockyear_inputs){
+        MODULUS, n, COMPARED, ids, n, votes[i], n, FIRST(NUMBERS, numbers),
+        FIRST(PERMUTATIONS, permutations[i]), FIRST(KEYS, keys)};
+    of.throws =
+        (struct paddockyear_throws){LENT(first_dice), LENT(second_dice), 0, 0, 0, no_sides, n};
+    of.parts = (struct paddockyear_parts){FIRST(PART_ONE, one), FIRST(PART_TWO, two),
+                                          FIRST(PART_THREE, three), FIRST(RECORD, joined)};
+    return of;
+}
+
+static void make_boards(void) {
+    make_shared_inputs();
+    for (int i = 0; i < BOARDS; i++) {
+        make_own_inputs(i, LEAST << i);
+        boards[i] = lent_board(i, LEAST << i);
+    }
+}
+
 static void write_one(void) {
-    demand(paddockyear_part_one(INPUTS, LENT(one)) == 0, "part one is refused");
+    demand(paddockyear_write_one(&board->in, &board->parts) == 0, "part one is refused");
 }
 
 static void write_two(void) {
-    uint32_t answer = paddockyear_part_two_drawn(INPUTS, LENT(first_dice), LENT(one), LENT(two));
+    uint32_t answer = paddockyear_write_two_drawn(&board->in, &board->throws, &board->parts);
     demand(answer == 0, "part two is refused");
 }
 
+/* By the mask that part two has, which need not be drawn again. */
 static void write_three(void) {
     const uint8_t *posted = two + 1 + DICE;
-    uint32_t mask = (uint32_t)posted[0] << 24 | (uint32_t)posted[1] << 16 |
-                    (uint32_t)posted[2] << 8 | posted[3];
-    uint32_t answer = paddockyear_part_three_drawn(INPUTS, LENT(second_dice), mask, LENT(one),
-                                                   LENT(two), LENT(three));
+    board->throws.mask = (uint32_t)posted[0] << 24 | (uint32_t)posted[1] << 16 |
+                         (uint32_t)posted[2] << 8 | posted[3];
+    uint32_t answer = paddockyear_write_three_drawn(&board->in, &board->throws, &board->parts);
     demand(answer == 0, "part three is refused");
 }
 
 static void write_all(void) {
-    uint32_t answer =
-        paddockyear_election(0, 0, INPUTS, LENT(first_dice), 0, LENT(second_dice), LENT(no_sides),
-                             LENT(one), LENT(two), LENT(three), LENT(joined));
+    uint32_t answer = paddockyear_hold(&board->in, &board->throws, &board->parts);
     demand(answer == 0, "the election is refused");
 }
 
 /* Every commitment. */
 static void hash_one(void) {
     uint8_t digest[32];
-    for (size_t i = 0; i < COMMITMENTS; i++) paddockyear_sha3_256(LENT(openings[i]), digest);
+    size_t count = (size_t)COMMITMENTS * board->in.ballots;
+    for (size_t i = 0; i < count; i++) paddockyear_sha3_256(LENT(openings[i]), digest);
 }
 
+/* Of a number of up to four digits. */
 static void hash_draw(uint32_t number) {
     size_t digits = 1 + (number > 9) + (number > 99) + (number > 999);
     uint8_t digest[28];
@@ -111,80 +150,105 @@ static void hash_draw(uint32_t number) {
 /* Part one, and a draw for each list. */
 static void hash_two(void) {
     uint8_t digest[28];
-    paddockyear_sha3_224(LENT(one), digest);
+    paddockyear_sha3_224(one, board->parts.one_length, digest);
     for (uint32_t list = 0; list < LISTS; list++) hash_draw(list);
 }
 
 /* Parts one and two, and a draw for each ballot. */
 static void hash_three(void) {
+    const struct paddockyear_parts *lent = &board->parts;
     uint8_t digest[28];
-    paddockyear_sha3_224_parts(LENT(one), LENT(two), message, 0, digest);
-    for (uint32_t ballot = 0; ballot < BALLOTS; ballot++) hash_draw(ballot + 1);
+    paddockyear_sha3_224_parts(one, lent->one_length, two, lent->two_length, message, 0, digest);
+    for (uint32_t ballot = 0; ballot < board->in.ballots; ballot++) hash_draw(ballot + 1);
 }
 
-struct row {
+static const struct part {
     const char *name;
     void (*write)(void), (*hash)(void);
-    double writing, hashing;
+} parts[PARTS] = {
+    {"Part one", write_one, hash_one},
+    {"Part two, drawn", write_two, hash_two},
+    {"Part three, drawn", write_three, hash_three},
 };
 
-static struct row parts[PARTS] = {
-    {"Part one", write_one, hash_one, INFINITY, INFINITY},
-    {"Part two, drawn", write_two, hash_two, INFINITY, INFINITY},
-    {"Part three, drawn", write_three, hash_three, INFINITY, INFINITY},
-};
-static struct row whole = {NULL, NULL, NULL, INFINITY, INFINITY};
-
-static void keep(struct row *row, double writing, double hashing) {
-    row->writing = smaller(writing, row->writing);
-    row->hashing = smaller(hashing, row->hashing);
-}
-
-/* The best of each part and of the whole, all taken in turn. */
-static void time_parts(void) {
-    for (int repetition = 0; repetition < REPETITIONS; repetition++) {
-        double writing_all = 0, hashing_all = 0;
-        for (int i = 0; i < PARTS; i++) {
-            double writing = time_once(parts[i].write), hashing = time_once(parts[i].hash);
-            keep(&parts[i], writing, hashing);
-            writing_all += writing;
-            hashing_all += hashing;
-        }
-        keep(&whole, writing_all, hashing_all);
+static void time_board(void) {
+    for (int i = 0; i < PARTS; i++) {
+        struct times *best = &board->part[i];
+        best->writing = smaller(time_once(parts[i].write), best->writing);
+        best->hashing = smaller(time_once(parts[i].hash), best->hashing);
     }
 }
 
 /* The C judge accepts the three parts joined, or their times mean nothing. */
 static void check_record(void) {
+    const struct paddockyear_parts *lent = &board->parts;
     size_t place;
-    memcpy(joined, one, PART_ONE);
-    memcpy(joined + PART_ONE, two, PART_TWO);
-    memcpy(joined + PART_ONE + PART_TWO, three, PART_THREE);
-    demand(judge(LENT(joined), 1, &place) == 0, "the C judge refuses");
+    memcpy(joined, one, lent->one_length);
+    memcpy(joined + lent->one_length, two, lent->two_length);
+    memcpy(joined + lent->one_length + lent->two_length, three, lent->three_length);
+    demand(judge(joined, lent->joined_length, 1, &place) == 0, "the C judge refuses");
 }
 
-static void print_row(const char *name, const struct row *row) {
-    printf("%-26s ours %9.3f ms   hashes  %9.3f ms   ratio %.3f", name, 1e3 * row->writing,
-           1e3 * row->hashing, row->writing / row->hashing);
+/* The best of each board and part, all taken in turn. */
+static void time_boards(void) {
+    for (int repetition = 0; repetition < REPETITIONS; repetition++) {
+        for (int i = 0; i < BOARDS; i++) {
+            board = &boards[i];
+            time_board();
+            if (repetition == 0) check_record();
+        }
+    }
+}
+
+static struct times whole(const struct board *of) {
+    struct times sum = {0, 0};
+    for (int i = 0; i < PARTS; i++) {
+        sum.writing += of->part[i].writing;
+        sum.hashing += of->part[i].hashing;
+    }
+    return sum;
+}
+
+static void print_times(const char *name, struct times best) {
+    printf("%-26s ours %9.3f ms   hashes  %9.3f ms   ratio %.3f", name, 1e3 * best.writing,
+           1e3 * best.hashing, best.writing / best.hashing);
+}
+
+static void print_board(const struct board *of) {
+    char name[32];
+    snprintf(name, sizeof name, "Writing n = %4u, m = %2u", of->in.ballots, of->in.compared);
+    print_times(name, whole(of));
+    printf(" (aim: at most %.2f)\n", AIM);
+    for (int i = 0; i < PARTS; i++) {
+        print_times(parts[i].name, of->part[i]);
+        printf("\n");
+    }
+}
+
+static void print_growth(const struct board *from, const struct board *to) {
+    struct times before = whole(from), after = whole(to);
+    printf("Growth from %4u to %4u   ours %9.3f      hashes  %9.3f\n", from->in.ballots,
+           to->in.ballots, after.writing / before.writing, after.hashing / before.hashing);
+}
+
+static void print_stack(const char *name, void (*run)(void)) {
+    printf("%-20s n = %u   stack %zu bytes (aim: at most %d)\n", name, board->in.ballots,
+           stack_of(run), PADDOCKYEAR_STACK_WRITING);
 }
 
 static void print_all(void) {
-    char name[32];
-    snprintf(name, sizeof name, "Writing n = %4d, m = %2d", BALLOTS, COMPARED);
-    print_row(name, &whole);
-    printf(" (aim: at most %.2f)\n", AIM);
-    for (int i = 0; i < PARTS; i++) {
-        print_row(parts[i].name, &parts[i]);
-        printf("   stack %zu bytes\n", stack_of(parts[i].write));
-    }
-    printf("Election in one call       stack %zu bytes\n", stack_of(write_all));
+    for (int i = 0; i < BOARDS; i++) print_board(&boards[i]);
+    for (int i = 1; i < BOARDS; i++) print_growth(&boards[i - 1], &boards[i]);
+    print_growth(&boards[0], &boards[BOARDS - 1]);
+    board = &boards[BOARDS - 1];
+    for (int i = 0; i < PARTS; i++) print_stack(parts[i].name, parts[i].write);
+    print_stack("Election in one call", write_all);
 }
 
 int main(void) {
     demand(judge_start(), "no SHA-3 in OpenSSL");
-    make_inputs();
-    time_parts();
-    check_record();
+    make_boards();
+    time_boards();
     print_all();
     judge_stop();
     return 0;
