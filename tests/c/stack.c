@@ -1,12 +1,18 @@
-/* Measures the stack that each call touches, with as many ballots and lists as there may be, beside the bounds of include/paddockyear.h.
- * The figures go to standard error; a call that needs more than its bound is printed as such, which makes the output another than due. */
+/* Shows that each call keeps to its bound of include/paddockyear.h, with as many ballots and lists as there may be: by what it touches of a
+ * painted stack, and by a run on a thread that has so much stack and no more. The figures go to standard error; a call that touches more is
+ * printed as such, which makes the output another than due, and a thread that needs more ends the program by a signal. */
 
 #include "paddockyear.h"
 #include "support.h"
 
+#include <pthread.h>
+#include <signal.h>
 #include <stdio.h>
+#include <sys/resource.h>
+#include <sys/wait.h>
+#include <unistd.h>
 
-enum { MODULUS = 1000003, BALLOTS = PADDOCKYEAR_MOST_BALLOTS, COMPARED = PADDOCKYEAR_MOST_COMPARED };
+enum { MODULUS = 1000003, BALLOTS = PADDOCKYEAR_MOST_BALLOTS, COMPARED = PADDOCKYEAR_MOST_COMPARED, KIB = 1024 };
 
 #define LENGTH(array) (sizeof(array) / sizeof((array)[0]))
 #define LENT(array) (array), LENGTH(array)
@@ -29,11 +35,11 @@ static uint64_t lanes[25], place, pairs, blank, spoiled;
 static uint32_t winner;
 static struct paddockyear_candidate table[PADDOCKYEAR_MOST_CANDIDATES];
 
-static void keccak_f(void) { paddockyear_keccak_f(lanes); }
-static void sha3_224(void) { paddockyear_sha3_224(LENT(keys), digest); }
-static void sha3_256(void) { paddockyear_sha3_256(LENT(keys), digest); }
-static void sha3_224_parts(void) { paddockyear_sha3_224_parts(LENT(keys), LENT(dice), LENT(keys), digest); }
-static void sha3_256_parts(void) { paddockyear_sha3_256_parts(LENT(keys), LENT(dice), LENT(keys), digest); }
+static void keccak_f(void) { paddockyear_keccak_f(lanes), answer = 0; }
+static void sha3_224(void) { paddockyear_sha3_224(LENT(keys), digest), answer = 0; }
+static void sha3_256(void) { paddockyear_sha3_256(LENT(keys), digest), answer = 0; }
+static void sha3_224_parts(void) { paddockyear_sha3_224_parts(LENT(keys), LENT(dice), LENT(keys), digest), answer = 0; }
+static void sha3_256_parts(void) { paddockyear_sha3_256_parts(LENT(keys), LENT(dice), LENT(keys), digest), answer = 0; }
 static void tablet(void) {
     answer = paddockyear_tablet(MODULUS, 5, 4, 3, 2, 1, 2, 3, keys, PADDOCKYEAR_BALLOT_KEYS_LENGTH, LENT(command), LENT(receipt));
 }
@@ -98,6 +104,9 @@ static const struct row rows[] = {
     ROW(runoff, PADDOCKYEAR_STACK),
 };
 
+/* With less than they need, which shows that a thread has no more than it is given. */
+static const struct row starved[] = {ROW(sha3_256, 1 * KIB), ROW(judge_as_drawn, 32 * KIB), ROW(election, 32 * KIB)};
+
 static void fill(void) {
     for (size_t i = 0; i < BALLOTS; i++) ids[i] = (uint32_t)i, votes[i] = (uint32_t)i % 7;
     for (size_t i = 0; i < LENGTH(numbers); i++) numbers[i] = (uint32_t)(i * i) % MODULUS;
@@ -106,13 +115,86 @@ static void fill(void) {
     for (size_t i = 0; i < LENGTH(dice); i++) dice[i] = (uint8_t)('1' + i % 6);
 }
 
+/* ---- threads */
+
+enum { MOST_STACK = 1024 * KIB, ALIGNMENT = 64 };
+
+static uint8_t *stack, *frame;
+static size_t taken;
+
+static void note_frame(void) { frame = __builtin_frame_address(0); }
+
+static void *start(void *row) {
+    ((const struct row *)row)->call();
+    return NULL;
+}
+
+/* Runs a call on a thread that has this many bytes of stack, the lowest ones, down to the region that nobody may touch. A thread must be
+ * told of 16 KiB or so at least; where that is more, it is told of a piece of that region too, of which it can use nothing. */
+static void run_on_thread(const struct row *row, size_t bytes) {
+    size_t least = (size_t)sysconf(_SC_THREAD_STACK_MIN), told = bytes < least ? least : bytes;
+    pthread_attr_t attributes;
+    pthread_t thread;
+    int failed = pthread_attr_init(&attributes) || pthread_attr_setstack(&attributes, stack + bytes - told, told) ||
+                 pthread_create(&thread, &attributes, start, (void *)row) || pthread_join(thread, NULL);
+    demand(!failed, "no thread");
+    pthread_attr_destroy(&attributes);
+}
+
+/* What a thread has taken of its stack when it calls, for its record and its first frames: given on top of a call's bound, so that the call
+ * itself has that bound and no more. Rounded as the record is aligned. */
+static void measure_taken(void) {
+    static const struct row noting = ROW(note_frame, MOST_STACK);
+    stack = guarded(MOST_STACK);
+    run_on_thread(&noting, noting.most);
+    size_t bytes = (size_t)(stack + noting.most - frame);
+    taken = (bytes + ALIGNMENT - 1) / ALIGNMENT * ALIGNMENT;
+    fprintf(stderr, "%-18s %6zu bytes of stack\n", "thread", taken);
+}
+
+/* Whether a call ends a process of its own by touching what it may not. */
+static int is_ended(const struct row *row) {
+    const struct rlimit no_core = {0, 0};
+    int status;
+    pid_t child = fork();
+    demand(child >= 0, "no process");
+    if (child == 0) {
+        setrlimit(RLIMIT_CORE, &no_core);
+        run_on_thread(row, row->most + taken);
+        _exit(0);
+    }
+    demand(waitpid(child, &status, 0) == child, "no process");
+    return WIFSIGNALED(status) && WTERMSIG(status) == SIGSEGV;
+}
+
+/* ---- both */
+
+/* Written out before the thread runs, so that the call which ends the program is seen. */
+static void show(const struct row *row) {
+    answer = 1;
+    size_t bytes = stack_of(row->call);
+    fprintf(stderr, "%-18s %6zu bytes of stack\n", row->name, bytes);
+    demand(answer == 0, "a call is refused");
+    printf("%s: %s its bound", row->name, bytes <= row->most ? "within" : "ABOVE");
+    fflush(stdout);
+    answer = 1;
+    run_on_thread(row, row->most + taken);
+    demand(answer == 0, "a call on a thread is refused");
+    printf(", runs on a stack of %zu KiB\n", row->most / KIB);
+}
+
+static void show_starved(const struct row *row) {
+    printf("%s on a stack of %zu KiB: %s\n", row->name, row->most / KIB, is_ended(row) ? "ended by a signal" : "RUNS");
+}
+
+static void show_all(void (*show_one)(const struct row *), const struct row *all, size_t count) {
+    for (size_t i = 0; i < count; i++) show_one(&all[i]);
+}
+
 int main(void) {
     fill();
-    for (size_t i = 0; i < LENGTH(rows); i++) {
-        size_t bytes = stack_of(rows[i].call);
-        fprintf(stderr, "%-18s %6zu bytes of stack\n", rows[i].name, bytes);
-        demand(answer == 0, "a call is refused");
-        printf("%s: %s its bound\n", rows[i].name, bytes <= rows[i].most ? "within" : "ABOVE");
-    }
+    measure_taken();
+    show_all(show, LENT(rows));
+    show_all(show_starved, LENT(starved));
     return 0;
 }
