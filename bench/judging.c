@@ -6,12 +6,13 @@
 #include "paddockyear.h"
 #include "support.h"
 
+#include <math.h>
 #include <stdio.h>
 
 #define RATIO_AIM 0.85
 #define GROWTH_AIM 4.2
 
-enum { REPETITIONS = 30, MAX_BOARDS = 8 };
+enum { REPETITIONS = 20, MAX_BOARDS = 8 };
 
 static struct posted boards[MAX_BOARDS];
 static struct row {
@@ -31,24 +32,26 @@ static void plain_c(void) {
 }
 
 static void read_boards(void) {
-    while (count < MAX_BOARDS && read_board(&boards[count])) count++;
+    while (count < MAX_BOARDS && read_board(&boards[count])) {
+        rows[count++] = (struct row){INFINITY, INFINITY};
+    }
     demand(count > 0, "no boards");
 }
 
-/* The best of each judge and board, all taken in turn. */
+static unsigned ballots(int i) { return (unsigned)boards[i].record[5] << 8 | boards[i].record[6]; }
+
+/* The best of each judge and board, all taken in turn, and each timing over as many ballots. */
 static void time_boards(void) {
     for (int repetition = 0; repetition < REPETITIONS; repetition++) {
         for (int i = 0; i < count; i++) {
+            unsigned runs = ballots(count - 1) / ballots(i);
+            demand(runs > 0, "the last board is not the largest");
             board = &boards[i];
-            double time_ours = time_once(ours), time_c = time_once(plain_c);
-            int first = repetition == 0;
-            rows[i].ours = first ? time_ours : smaller(time_ours, rows[i].ours);
-            rows[i].plain_c = first ? time_c : smaller(time_c, rows[i].plain_c);
+            rows[i].ours = smaller(time_each(ours, runs), rows[i].ours);
+            rows[i].plain_c = smaller(time_each(plain_c, runs), rows[i].plain_c);
         }
     }
 }
-
-static unsigned ballots(int i) { return (unsigned)boards[i].record[5] << 8 | boards[i].record[6]; }
 
 static void print_times(void) {
     for (int i = 0; i < count; i++) {

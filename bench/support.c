@@ -28,6 +28,12 @@ double time_once(void (*run)(void)) {
     return seconds() - start;
 }
 
+double time_each(void (*run)(void), unsigned runs) {
+    double start = seconds();
+    for (unsigned i = 0; i < runs; i++) run();
+    return (seconds() - start) / runs;
+}
+
 double smaller(double a, double b) { return a < b ? a : b; }
 
 uint8_t *guarded(size_t bytes) {

@@ -12,6 +12,11 @@ void demand(int holds, const char *what);
 /* The processor's time, so that other programs weigh little. */
 double seconds(void);
 double time_once(void (*run)(void));
+
+/* The time of one run out of so many: runs of short things are many, so that what else the machine
+ * does weighs alike on them and on long ones. */
+double time_each(void (*run)(void), unsigned runs);
+
 double smaller(double a, double b);
 
 /* Memory for a stack, above a region of 1 MiB that nobody may touch, so that no frame reaches
