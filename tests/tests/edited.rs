@@ -2,11 +2,11 @@
 //! short ones of the runoff; with the feature `edited`. Programs alone call `put_result`,
 //! `put_refused` and `put_lines`.
 
-use paddockyear_tests::boards::inputs;
 use paddockyear_tests::boards::samples::files;
+use paddockyear_tests::boards::{honest, inputs, BOTH};
 use paddockyear_tests::edited::protocol::{Verdict, Written};
 use paddockyear_tests::edited::runoff as edited_runoff;
-use paddockyear_tests::edited::{disclosure, results, verifier, wire};
+use paddockyear_tests::edited::{disclosure, limits, results, verifier, wire};
 use paddockyear_tests::random::Random;
 use paddockyear_tests::reference::runoff::Candidate;
 use paddockyear_tests::reference::terms::{Parameters, MAX_BALLOTS};
@@ -72,10 +72,11 @@ fn dice() {
     }
 }
 
-/// More places of ballots in compared lists than one list can have.
+/// More places of ballots in compared lists than there were once in one.
 #[test]
 fn places_of_twelve_lists() {
     let (random, parameters) = (&mut Random::new(62), Parameters { modulus: 100, n: 90, m: 12 });
+    assert!(parameters.m * parameters.n > 1024);
     let given = inputs(random, parameters);
     let [_, _, length] = parameters.part_lengths();
     let (dice, mask, sides) = (random.dice(), random.mask(12), random.sides(90));
@@ -95,6 +96,16 @@ fn places_of_twelve_lists() {
         &mut out,
     );
     assert_eq!(answer, Written::Done);
+}
+
+/// A place and a position beyond the marks that there were once.
+#[test]
+fn many_ballots_with_marks() {
+    let places: Vec<u16> = (0..1025).collect();
+    assert!(limits::is_permutation(1025, &places));
+    let parameters = Parameters { modulus: 100, n: 1025, m: 1 };
+    let record = honest(&mut Random::new(63), parameters, BOTH).record();
+    assert_eq!(verifier::judge_as_drawn(&record), Verdict::Accepted);
 }
 
 /// Refusals and elections of few votes: the suite's long ones take up the work that an edit is tried
