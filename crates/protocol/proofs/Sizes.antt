@@ -1,5 +1,6 @@
 -- There is an election of every size within the limits: for all M, n and m in them there are inputs that no call refuses, and so a record
--- that drawn judging accepts, as long as these parameters say. With 4,096 ballots and 24 lists it has 37,371,979 bytes.
+-- that drawn judging accepts, as long as these parameters say, and three records as soundness supposes them. With 4,096 ballots and 24 lists
+-- it has 37,371,979 bytes.
 use mathlib.Core.Path.{_≡_, refl, sym, ap, _∙_}
 use mathlib.Core.Bool.{Bool, true, false}
 use mathlib.Core.List.{List}
@@ -8,7 +9,7 @@ use native.Mathlib.Nat.{mul-le-mul-right, add-mul-mod-self-right, mod-eq-of-lt}
 use native.Mathlib.Omega.{arith}
 use lib.ListN.{length, replicate, length-replicate, getD-replicate}
 use Rattle.laws.specs.Bytes.{Below}
-use Rattle.laws.specs.Tests.{equal, atMost, _and_, every, unequal-iff}
+use Rattle.laws.specs.Tests.{equal, atMost, _and_, every, is-equal, unequal-iff}
 use Rattle.laws.specs.Faults.{rules}
 use Rattle.laws.specs.Chunks.{get-piece}
 use Rattle.laws.specs.Permutations.{Perm}
@@ -20,12 +21,14 @@ use Rattle.protocol.specs.Layout.{lists, recordLength, partOneLength, pa
 use Rattle.protocol.specs.Record.{parametersOf}
 use Rattle.protocol.specs.Rules.{fairDie, fairDice}
 use Rattle.protocol.specs.Judging.{judged}
-use Rattle.protocol.specs.Inputs.{Slices, inputsOf, listPermutations, dueLengths, idsRise, allPermutations, refusal}
+use Rattle.protocol.specs.Inputs.{Slices, inputsOf, listPermutations, dueLengths, idsRise, allPermutations, refusal, partOneRefusal}
 use Rattle.protocol.specs.Election.{drawn, maskInShape, sidesDue, sidesBinary, electionRefusal, electionRecord}
 use Rattle.protocol.proofs.Unrefused.{tests}
+use Rattle.protocol.specs.Demand3.{Triple}
 use Rattle.protocol.proofs.Lengths.{record-length}
 use Rattle.protocol.proofs.Accepting.{accepts-drawn-iff}
 use Rattle.protocol.proofs.Completeness.{none-refused, complete-parameters, complete-drawn}
+use Rattle.protocol.proofs.Meetable.{lowMask, highMask, sample, triple}
 
 -- ids 0 to n - 1; all votes, numbers and keys 0; no ballot moved
 abbrev pub plain : Parameters → Slices
@@ -108,7 +111,7 @@ module _ (p : Parameters) where
             let ne = unequal-iff j 0 .0 e in
             rw (get-tabulate (λ i. i) (p .ballots) (j - 1) (omega arith), get-tabulate (λ i. i) (p .ballots) j l) (omega (arith, ne))
 
-    ids-small : Below 4294967296 (plain p .ids)
+    pub ids-small : Below 4294967296 (plain p .ids)
     ids-small i l = rw (get-tabulate (λ j. j) (p .ballots) i (omega (arith, length-tabulate (λ j. j) (p .ballots)))) (omega (arith, length-tabulate (λ j. j) (p .ballots), ballots-high))
 
     pub none-refuses : electionRefusal (plain p) drawn allOnes drawn allOnes (partOneLength p) (partTwoLength p) (partThreeLength p) (recordLength p) ≡ 0
@@ -123,6 +126,18 @@ module _ (p : Parameters) where
 
     pub long : length plainRecord ≡ recordLength p
     long = accepts-drawn-iff plainRecord .0 accepted-drawn .0 .laid .long ∙ rw parameters-are (sym (record-length p))
+
+    -- ---- three records as soundness supposes them
+
+    pub part-one : partOneRefusal (plain p) (partOneLength p) ≡ 0
+    unfolding partOneRefusal
+    part-one = unrefused (is-equal refl) refl refl refl
+
+    abbrev pub plainSample : ℕ → ℕ → List ℕ
+    plainSample = sample (plain p) (partOneLength p) ids-small part-one
+
+    pub three-records : Triple (plainSample (lowMask (p .compared)) 0) (plainSample (lowMask (p .compared)) 1) (plainSample (highMask (p .compared)) 0)
+    three-records = triple (plain p) (partOneLength p) ids-small part-one
 
 -- as many ballots and lists as there may be, with any modulus
 pub most-stands : (M : ℕ) → 2 ≤ M → M ≤ 4294967295 → (r : List ℕ) × (judged true r ≡ accepted) × (parametersOf r ≡ parameters M 4096 12) × (length r ≡ 37371979)
