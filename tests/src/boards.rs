@@ -26,8 +26,8 @@ pub const FAR_PLACES: [usize; 10] = [0, 1, 255, 256, 257, 1023, 1024, 1025, 4094
 /// Other places that this one is told apart from by one byte or one bit, or by the bytes' order.
 pub fn mistaken(place: u16) -> BTreeSet<u16> {
     let bytes = [place ^ 0x0100, place ^ 0x0001, place & 0x00FF, place.swap_bytes()];
-    let others = bytes.into_iter().chain([place ^ 1024, place % 1024]);
-    others.filter(|&other| other != place).collect()
+    let bits = [place ^ 1024, place % 1024, place | 4096, place | 0x8000];
+    bytes.into_iter().chain(bits).filter(|&other| other != place).collect()
 }
 
 /// Command 01 with this n, and nothing behind it.

@@ -208,17 +208,26 @@ fn nested(inputs: &Inputs) -> Election {
     }
 }
 
+fn check_flat_order(random: &mut Random, n: u32, m: u32) {
+    let parameters = Parameters { modulus: modulus(random), n, m };
+    let inputs = inputs(random, parameters);
+    let throws = drawn(random);
+    let dice = [throws.first.clone(), throws.second.clone()];
+    let board = board_with_dice(random, &inputs, &dice, BOTH);
+    let posted = elect(&nested(&inputs), &throws).unwrap();
+    assert!(posted.parts == board.parts);
+    assert!(posted.record == board.record());
+}
+
 #[test]
 fn the_flat_order() {
     let random = &mut Random::new(245);
-    for (n, m) in [(1, 1), (5, 3), (12, 12), (300, 1), (1025, 1)] {
-        let parameters = Parameters { modulus: modulus(random), n, m };
-        let inputs = inputs(random, parameters);
-        let throws = drawn(random);
-        let dice = [throws.first.clone(), throws.second.clone()];
-        let board = board_with_dice(random, &inputs, &dice, BOTH);
-        let posted = elect(&nested(&inputs), &throws).unwrap();
-        assert!(posted.parts == board.parts);
-        assert!(posted.record == board.record());
+    for (n, m) in [(1, 1), (5, 3), (12, 12), (300, 1)] {
+        check_flat_order(random, n, m);
     }
+}
+
+#[test]
+fn the_flat_order_of_many_ballots() {
+    check_flat_order(&mut Random::new(247), 4096, 1);
 }

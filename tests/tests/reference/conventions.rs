@@ -37,6 +37,13 @@ fn seeds_masks_and_sides() {
     assert_eq!(sides.matches('1').count(), 2006);
 }
 
+/// The mask drawn on as many bytes as part one has at most.
+#[test]
+fn mask_of_many_ballots() {
+    let part_one = vec![0xA3; 20_074_504];
+    assert_eq!(drawn_mask(12, &seed(DICE, &part_one)), 11_603_067);
+}
+
 /// Three ballots and two lists, every permutation another.
 fn inputs() -> Inputs {
     Inputs {

@@ -120,26 +120,34 @@ fn columns_keep_the_sum() {
     }
 }
 
-/// What a row server takes from a far place, and each place that this one may be taken for.
+/// What stands at far places after each entry.
 #[test]
 fn far_places() {
-    let random = &mut Random::new(69);
-    let call = ColumnCall::honest(random, Entry::RowServer, u32::MAX, 4096);
-    for at in FAR_PLACES {
-        for other in mistaken(call.permutation[at]) {
-            let mut call = call.clone();
-            call.permutation[at] = other;
-            assert_eq!(answer(call), 19, "{other} at {at}");
-        }
-    }
     let permutation: Vec<u16> = (0..4096).map(|i| (i + 1025) % 4096).collect();
     let (row, zeros): (Vec<u32>, Vec<u32>) = ((0..4096).collect(), vec![0; 4096]);
     let mut out = vec![7; 4096];
     row_server(u32::MAX, 4096, &row, &zeros, &permutation, &mut out).unwrap();
-    assert_eq!(
-        FAR_PLACES.map(|i| out[i]),
-        [1025, 1026, 1280, 1281, 1282, 2048, 2049, 2050, 1023, 1024]
-    );
+    let due = [1025, 1026, 1280, 1281, 1282, 2048, 2049, 2050, 1023, 1024];
+    assert_eq!(FAR_PLACES.map(|place| out[place]), due);
+    offsets_server(5000, 4096, &row, &zeros, &mut out).unwrap();
+    let due = [0, 4999, 4745, 4744, 4743, 3977, 3976, 3975, 906, 905];
+    assert_eq!(FAR_PLACES.map(|place| out[place]), due);
+    split_server(5000, 4096, &zeros, &row, &mut out).unwrap();
+    assert_eq!(FAR_PLACES.map(|place| out[place]), due);
+}
+
+/// A far place is left out of a permutation for one that it may be taken for.
+#[test]
+fn permutations_of_far_places() {
+    let call = ColumnCall::honest(&mut Random::new(69), Entry::RowServer, u32::MAX, 4096);
+    for place in FAR_PLACES.map(|place| place as u16) {
+        let at = call.permutation.iter().position(|&from| from == place).unwrap();
+        for other in mistaken(place) {
+            let mut call = call.clone();
+            call.permutation[at] = other;
+            assert_eq!(answer(call), 19, "{other} for {place}");
+        }
+    }
 }
 
 /// Before 18.

@@ -4,7 +4,7 @@ use super::verdict;
 use crate::subject::judge;
 use paddockyear_tests::boards::*;
 use paddockyear_tests::random::Random;
-use paddockyear_tests::reference::judge::{Judging, JUDGINGS};
+use paddockyear_tests::reference::judge::{Fault, Judging, JUDGINGS};
 use paddockyear_tests::reference::terms::{sorted, Parameters};
 
 fn accepted(board: &Board, judging: Judging) {
@@ -42,16 +42,31 @@ fn of_every_shape() {
     }
 }
 
-/// Indices above a byte, ballot numbers of three and four digits, and the largest board.
+/// Indices above a byte, and ballot numbers of three and four digits.
 #[test]
 fn with_many_ballots() {
     let random = &mut Random::new(11);
-    let shapes = [(99, 2), (100, 1), (256, 1), (1000, 1), (1024, 1), (1025, 3), (4096, 12)];
+    let shapes = [(99, 2), (100, 1), (256, 1), (1000, 1), (1024, 1), (1025, 3)];
     for (n, m) in MANY.map(|n| (n, 1)).into_iter().chain(shapes) {
         let board = honest(random, Parameters { modulus: u32::MAX, n, m }, BOTH);
         accepted(&board, Judging::Plain);
         accepted(&board, Judging::Drawn);
     }
+}
+
+/// As many ballots and lists as there may be, and a byte more.
+#[test]
+fn longest_record_of_many_ballots() {
+    let random = &mut Random::new(15);
+    let board = honest(random, Parameters { modulus: u32::MAX, n: 4096, m: 12 }, BOTH);
+    let mut record = board.record();
+    assert_eq!(record.len(), 37_371_979);
+    for judging in JUDGINGS {
+        assert_eq!(judge(&record, judging), Ok(sorted(&board.inputs.votes)), "{judging:?}");
+    }
+    record.push(0x0B);
+    let fault = Fault { number: 17, place: 37_371_979 };
+    assert_eq!(judge(&record, Judging::Plain), Err(fault));
 }
 
 /// A given mask or given sides hold in drawn judging only where they happen to be the drawn ones.

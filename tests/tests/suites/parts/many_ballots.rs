@@ -64,16 +64,18 @@ fn rules_10_and_11_far_numbers() {
     }
 }
 
-/// A place that another one is taken for stands twice, or is none.
+/// A far place is left out of a permutation for one that it may be taken for.
 #[test]
 fn rule_19_far_places() {
     let former = calls(273, Parameters { modulus: M, n: 1025, m: 1 });
     for mut call in former.into_iter().chain(most_ballots(274)) {
         let before = call.clone();
         let n = call.inputs.parameters.ballots();
-        let far = FAR_PLACES.into_iter().filter(|&at| at < n);
-        for at in far.flat_map(|at| [at, 5 * n + at]) {
-            for other in mistaken(call.inputs.permutations[at]) {
+        let far = FAR_PLACES.into_iter().filter(|&place| place < n).map(|place| place as u16);
+        for (place, start) in far.zip([0, 5 * n].into_iter().cycle()) {
+            let permutation = &call.inputs.permutations[start..];
+            let at = start + permutation.iter().position(|&from| from == place).unwrap();
+            for other in mistaken(place) {
                 refused(&mut call, 19, |call| &mut call.inputs.permutations[at], other);
             }
         }
