@@ -7,27 +7,66 @@ ghost use Rattle.laws.specs.Lent.{before};
 ghost use Rattle.laws.specs.Masks.{setBefore, clearBefore};
 ghost use Rattle.protocol.specs.Terms.{mostBallots};
 ghost use Rattle.protocol.specs.Layout as places;
-ghost use Rattle.protocol.specs.Record.{parametersOf, maskOf};
+ghost use Rattle.protocol.specs.Record.{formOf, parametersOf, maskOf};
 ghost use Rattle.layout.specs.Bounds.{Few};
+use protocol::Form;
 use protocol::Parameters;
+
+// How many bytes the election's number takes.
+fn number_width(form: Form) -> usize
+    ensures { λ r. ⌜ (r ≡ places.numberWidth form) × (r ≤ 4) ⌝ }
+{
+    match form {
+        Form::Unnumbered => 0,
+        Form::Numbered(_) => 4,
+    }
+}
+
+// The first command's form.
+fn form(bytes: &[u8]) -> Form
+    requires { ⌜ 8 ≤ length (now bytes) ⌝ }
+    ensures { λ r. ⌜ r ≡ formOf (before bytes) ⌝ }
+{
+    if bytes[0] == 0x0C {
+        return Form::Numbered(wire::read4(bytes, 1));
+    }
+    Form::Unnumbered
+}
+
+// The form that is due of a first command, which may be cut short: its byte tells, and no number is read.
+pub fn due_form(bytes: &[u8]) -> Form
+    ensures { λ r. ⌜ places.firstCode r ≡ places.firstCode (formOf (before bytes)) ⌝ }
+{
+    if bytes.len() == 0 {
+        return Form::Unnumbered;
+    }
+    if bytes[0] == 0x0C {
+        return Form::Numbered(0);
+    }
+    Form::Unnumbered
+}
 
 // The parameters that the first command says.
 pub fn parameters(bytes: &[u8]) -> Parameters
     requires { ⌜ places.firstWidth (parametersOf (now bytes)) ≤ length (now bytes) ⌝ }
     ensures { λ r. ⌜ r ≡ parametersOf (before bytes) ⌝ }
 {
+    let form = form(bytes);
+    let w = number_width(form);
     Parameters {
-        modulus: wire::read4(bytes, 1),
-        ballots: wire::read2(bytes, 5) as usize,
-        compared: wire::read1(bytes, 7) as usize,
+        form,
+        modulus: wire::read4(bytes, 1 + w),
+        ballots: wire::read2(bytes, 5 + w) as usize,
+        compared: wire::read1(bytes, 7 + w) as usize,
     }
 }
 
 // The first command's width.
 pub fn first_width(p: Parameters) -> usize
-    ensures { λ r. ⌜ r ≡ places.firstWidth p ⌝ }
+    ensures { λ r. ⌜ (r ≡ places.firstWidth p) × (r ≤ 12) ⌝ }
 {
-    8
+    let form = p.form;
+    8 + number_width(form)
 }
 
 // How many lists there are.

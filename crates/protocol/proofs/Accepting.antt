@@ -211,7 +211,7 @@ module _ (drawn : Bool) (r : List ℕ) (s : Stands r) (are : drawn ≡ true → 
       let v = s .valid in
       record {
         first =
-            faultless-at First (s .laid .first) (first-within shaped)
+            faultless-at First (s .laid .first) (omega (arith, first-within shaped))
             (first-tests drawn p r .1 ((v .modulus-low, v .modulus-high), ((v .ballots-low, v .ballots-high), (v .compared-low, v .compared-high))));
         ballots = λ j lj.
             faultless-at (Ballot j) (s .laid .ballots j lj) (ballot-within shaped j lj)

@@ -2,36 +2,57 @@
 use mathlib.Core.Path.{_≡_, sym, ap, _∙_}
 use mathlib.Core.List.{List}
 use Prim.Native.Nat.{ℕ, _+_, _*_, _≤_, _<_}
+use native.Mathlib.Nat.{le-refl}
 use native.Mathlib.Omega.{arith}
 use lib.Arith.{digits-lt}
-use lib.ListN.{take}
-use lib.Seq.{take-take}
+use lib.ListN.{getD, take}
+use lib.Seq.{getD-take, take-take}
 use Rattle.laws.specs.Bytes.{number-same}
 use Rattle.laws.specs.Chunks.{piece-same}
 use Rattle.laws.specs.Masks.{setBefore}
 use Rattle.protocol.specs.declared.Parameters.{Parameters}
-use Rattle.protocol.specs.Layout.{lists, atBallot, atEntry, atFirstDice, atLink, atSecondDice}
-use Rattle.protocol.specs.Record.{parametersOf, idOf, ballotCommitmentOf, entryCommitmentOf, firstDiceOf, maskOf, linkPlace, positionOf, shiftOf}
+use Rattle.protocol.specs.Terms.{item}
+use Rattle.protocol.specs.Layout.{numberWidth, firstWidth, lists, atBallot, atEntry, atFirstDice, atLink, atSecondDice}
+use Rattle.protocol.specs.Record.{formOf, parametersOf, idOf, ballotCommitmentOf, entryCommitmentOf, firstDiceOf, maskOf, linkPlace, positionOf, shiftOf}
 use Rattle.protocol.specs.Demand3.{beforeFirstDice}
 
 -- a shorter beginning
-take-less : (r s : List ℕ) (d e c : ℕ) → take d r ≡ take e s → c ≤ d → c ≤ e → take c r ≡ take c s
+pub take-less : (r s : List ℕ) (d e c : ℕ) → take d r ≡ take e s → c ≤ d → c ≤ e → take c r ≡ take c s
 take-less r s d e c h k l = sym (take-take c d r k) ∙ ap (take c) h ∙ take-take c e s l
 
 -- ---- the parameters
 
-parameters-same : (r s : List ℕ) → take 8 r ≡ take 8 s → parametersOf r ≡ parametersOf s
-unfolding parametersOf
-parameters-same r s e = rw (number-same r s 8 1 4 e (omega arith), number-same r s 8 5 2 e (omega arith), number-same r s 8 7 1 e (omega arith))
+-- the first byte
+byte-same : (r s : List ℕ) → take 8 r ≡ take 8 s → item r 0 ≡ item s 0
+byte-same r s t = sym (getD-take 8 r 0 0 (omega arith)) ∙ ap (λ (x : List ℕ). getD x 0 0) t ∙ getD-take 8 s 0 0 (omega arith)
 
-first-low : (p : Parameters) → 8 ≤ atFirstDice p
+-- eight bytes tell the form
+form-same : (r s : List ℕ) → take 8 r ≡ take 8 s → formOf r ≡ formOf s
+unfolding formOf
+form-same r s t = let b : item r 0 ≡ item s 0 = byte-same r s t in rw (b, number-same r s 8 1 4 t (omega arith))
+
+-- the same bytes up to an end, behind the whole first command of either
+pub parameters-within : (r s : List ℕ) (end : ℕ) → take end r ≡ take end s → firstWidth (parametersOf r) ≤ end → parametersOf r ≡ parametersOf s
+unfolding parametersOf
+parameters-within r s end h l =
+    let w : ℕ = numberWidth (formOf r) in
+    let f : formOf s ≡ formOf r = sym (form-same r s (take-less r s end end 8 h (omega arith) (omega arith))) in
+    let t : take (8 + w) r ≡ take (8 + w) s = take-less r s end end (8 + w) h l l in
+    rw (f, number-same r s (8 + w) (1 + w) 4 t (omega arith), number-same r s (8 + w) (5 + w) 2 t (omega arith), number-same r s (8 + w) (7 + w) 1 t (omega arith))
+
+pub first-low : (p : Parameters) → firstWidth p ≤ atFirstDice p
 unfolding atFirstDice
 first-low p = omega arith
 
 pub parameters-alike : (r s : List ℕ) → beforeFirstDice r ≡ beforeFirstDice s → parametersOf r ≡ parametersOf s
+unfolding parametersOf
 parameters-alike r s e =
-    parameters-same r s
-    (take-less r s (atFirstDice (parametersOf r)) (atFirstDice (parametersOf s)) 8 e (first-low (parametersOf r)) (first-low (parametersOf s)))
+    let d : ℕ = atFirstDice (parametersOf r) in
+    let d′ : ℕ = atFirstDice (parametersOf s) in
+    let low : firstWidth (parametersOf r) ≤ d = first-low (parametersOf r) in
+    let low′ : firstWidth (parametersOf s) ≤ d′ = first-low (parametersOf s) in
+    let f : formOf r ≡ formOf s = form-same r s (take-less r s d d′ 8 e (omega (arith, low)) (omega (arith, low′))) in
+    parameters-within r s (firstWidth (parametersOf r)) (take-less r s d d′ (firstWidth (parametersOf r)) e low (rw f low′)) (le-refl (firstWidth (parametersOf r)))
 
 -- ---- before the first dice
 

@@ -21,7 +21,7 @@ use Rattle.protocol.specs.Results.{announcedVotes}
 use Rattle.protocol.specs.Stands.{Stands, Drawn}
 use Rattle.protocol.specs.Election.{Choice, chosen, drawn, maskBy, sidesBy, secondRefusal, thirdRefusal, electionMask, electionTwo, electionSides, electionThree, electionRecord, electionRefusal}
 use Rattle.protocol.proofs.Fitting.{Fits}
-use Rattle.protocol.proofs.Goodness.{Good}
+use Rattle.protocol.proofs.Goodness.{FourBytes, Good}
 use Rattle.protocol.proofs.Honesty.{Chosen, honest-fits, honest-valid}
 use Rattle.protocol.proofs.Unrefused as unrefusing
 use Rattle.protocol.proofs.Unrefused.{unrefused, good-inputs}
@@ -146,7 +146,7 @@ module _ (s : Slices) where
       let long = simp rules at (u .lengths-due) in
       (long .0, (u .fair-dice, drawn-sides s (challenge dice₂ (one ++ two))))
 
-  module _ (byMask : Choice ℕ) (dice₁ : List ℕ) (bySides : Choice (List ℕ)) (dice₂ : List ℕ) (ids : Below 4294967296 (s .ids)) (h : Unrefusing s byMask dice₁ bySides dice₂) where
+  module _ (byMask : Choice ℕ) (dice₁ : List ℕ) (bySides : Choice (List ℕ)) (dice₂ : List ℕ) (fit : FourBytes s) (h : Unrefusing s byMask dice₁ bySides dice₂) where
     taken : Taken s dice₁ (electionMask s byMask dice₁) dice₂ (electionSides s byMask dice₁ bySides dice₂)
     unfolding electionSides
     taken =
@@ -160,7 +160,7 @@ module _ (s : Slices) where
 
     good : Good (inputsOf s)
     unfolding partOneRefusal
-    good = good-inputs s (unrefused s _ _ _ _ (h .one .1)) ids
+    good = good-inputs s (unrefused s _ _ _ _ (h .one .1)) fit
 
     -- the record is accepted, and announces the votes cast, smallest first
     pub complete : (judged false (electionRecord s byMask dice₁ bySides dice₂) ≡ accepted) × (announcedVotes (electionRecord s byMask dice₁ bySides dice₂) ≡ sort (s .votes))
@@ -176,7 +176,7 @@ module _ (s : Slices) where
     complete-parameters = written-parameters s good dice₁ (electionMask s byMask dice₁) dice₂ (electionSides s byMask dice₁ bySides dice₂) taken
 
   -- where mask and sides are drawn, drawn judging accepts it too
-  pub complete-drawn : (dice₁ dice₂ : List ℕ) → Below 4294967296 (s .ids) → Unrefusing s drawn dice₁ drawn dice₂ → judged true (electionRecord s drawn dice₁ drawn dice₂) ≡ accepted
+  pub complete-drawn : (dice₁ dice₂ : List ℕ) → FourBytes s → Unrefusing s drawn dice₁ drawn dice₂ → judged true (electionRecord s drawn dice₁ drawn dice₂) ≡ accepted
   unfolding electionRecord electionTwo electionThree electionSides electionMask maskBy sidesBy written
-  complete-drawn dice₁ dice₂ ids h =
-      written-drawn s (good drawn dice₁ drawn dice₂ ids h) dice₁ (electionMask s drawn dice₁) dice₂ (electionSides s drawn dice₁ drawn dice₂) (taken drawn dice₁ drawn dice₂ ids h) refl refl
+  complete-drawn dice₁ dice₂ fit h =
+      written-drawn s (good drawn dice₁ drawn dice₂ fit h) dice₁ (electionMask s drawn dice₁) dice₂ (electionSides s drawn dice₁ drawn dice₂) (taken drawn dice₁ drawn dice₂ fit h) refl refl

@@ -4,10 +4,12 @@ use Prim.Native.Nat.{ℕ, _^_, _<_}
 use lib.Count.{ones}
 use lib.ListN.{length}
 use Rattle.laws.specs.Masks.{bit}
+use Rattle.protocol.specs.Terms.{electionNumber}
 use Rattle.protocol.specs.Layout.{lists}
 use Rattle.protocol.specs.Record.{Board, Comparison, Disclosure}
 
 pub record Fits (b : Board) (k : Comparison) (d : Disclosure) : Type 0 where
+  pub election : electionNumber (b .parameters .form) < 4294967296
   pub modulus : b .parameters .modulus < 4294967296
   pub ballots : b .parameters .ballots < 65536
   pub compared : lists (b .parameters) < 256

@@ -2,12 +2,19 @@
 use mathlib.Core.Path.{_≡_}
 use Prim.Native.Nat.{ℕ, suc, _≤_, _<_}
 use lib.ListN.{length}
+use Rattle.laws.specs.Bytes.{Below}
 use Rattle.laws.specs.Permutations.{Perm}
-use Rattle.protocol.specs.Terms.{mostBallots}
+use Rattle.protocol.specs.Terms.{mostBallots, electionNumber}
 use Rattle.protocol.specs.Layout.{lists}
-use Rattle.protocol.specs.Inputs.{Inputs}
+use Rattle.protocol.specs.Inputs.{Slices, Inputs}
+
+-- what the servers are handed in types of 4 bytes, and no test limits further: the ids, and the election's number
+pub record FourBytes (s : Slices) : Type 0 where
+  pub ids : Below 4294967296 (s .ids)
+  pub election : electionNumber (s .parameters .form) < 4294967296
 
 pub record Good (s : Inputs) : Type 0 where
+  pub election-fits : electionNumber (s .parameters .form) < 4294967296
   pub modulus-low : 2 ≤ s .parameters .modulus
   pub modulus-high : s .parameters .modulus ≤ 4294967295
   pub ballots-low : 1 ≤ s .parameters .ballots

@@ -145,6 +145,7 @@ module _ (s : Inputs) (g : Good s) where
     pub honest-fits : Fits (postedBoard s) (postedComparison s dice₁ mask) (postedDisclosure s dice₂ side)
     unfolding postedBoard postedComparison postedDisclosure
     honest-fits = record {
+      election = g .election-fits;
       modulus = omega (arith, g .modulus-high);
       ballots = omega (arith, g .ballots-high);
       compared = omega (arith, g .compared-high);

@@ -3,13 +3,21 @@ use mathlib.Core.Path.{_≡_}
 use Prim.Native.Nat.{ℕ, suc, _+_, _*_, _≤_, _<_}
 use native.Mathlib.Nat.{mul-le-mul-right}
 use native.Mathlib.Omega.{arith}
+use Rattle.protocol.specs.declared.Form.{Form}
+use Rattle.protocol.specs.declared.Form.the-variants.{Unnumbered, Numbered}
 use Rattle.protocol.specs.declared.Parameters.{Parameters}
-use Rattle.protocol.specs.Layout.{lists, firstWidth, atBallot, atEntry, atFirstDice, atLink, atSecondDice, atBallotHalf, atListHalf, atVote, atFullOpening, atEnd, recordLength, partThreeLength}
+use Rattle.protocol.specs.Layout.{numberWidth, lists, firstWidth, atBallot, atEntry, atFirstDice, atLink, atSecondDice, atBallotHalf, atListHalf, atVote, atFullOpening, atEnd, recordLength, partThreeLength}
 
 -- ---- lengths
 
--- "The whole is 75 + 316n + 734mn bytes."
-pub record-length : (p : Parameters) → recordLength p ≡ 75 + 316 * p .ballots + 734 * (p .compared * p .ballots)
+-- "4 bytes longer", or not at all
+pub number-width : (form : Form) → numberWidth form ≤ 4
+unfolding numberWidth
+number-width Unnumbered = omega arith
+number-width (Numbered election) = omega arith
+
+-- "The whole is 75 + 316n + 734mn bytes.", with 0C "4 bytes longer"
+pub record-length : (p : Parameters) → recordLength p ≡ 75 + numberWidth (p .form) + 316 * p .ballots + 734 * (p .compared * p .ballots)
 unfolding atEnd atVote atBallotHalf atSecondDice atFirstDice
 record-length p = omega arith
 

@@ -42,3 +42,4 @@ pub mod Named
 pub mod First
 pub mod Unfitting
 pub mod Answered
+pub mod Forms

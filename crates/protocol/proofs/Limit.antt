@@ -15,7 +15,7 @@ use Rattle.protocol.specs.declared.Parameters.{Parameters}
 use Rattle.protocol.specs.declared.Due.the-variants.{First}
 use Rattle.protocol.specs.Answers.{answerOf, accepted, refused}
 use Rattle.protocol.specs.Terms.{item, mostBallots, modulusInLimits, listsInLimits, inLimitsUpTo, inLimits}
-use Rattle.protocol.specs.Layout.{recordLength}
+use Rattle.protocol.specs.Layout.{firstCode, numberWidth, firstWidth, recordLength}
 use Rattle.protocol.specs.Record.{parametersOf}
 use Rattle.protocol.specs.Rules.{firstRules, firstRulesUpTo, inCommand, fault}
 use Rattle.protocol.specs.Judging.{found, laterFaults, firstFault, judged, firstCommandUpTo, firstFaultUpTo, judgedUpTo}
@@ -67,13 +67,14 @@ module _ (r : List ℕ) (few : parametersOf r .ballots ≤ 1024) where
 
 -- ---- beyond the limit: 3, at the first byte, wherever the first command is whole
 
-module _ (most : ℕ) (drawn : Bool) (r : List ℕ) (whole : 8 ≤ length r) (due : item r 0 ≡ 0x01) (more : most < parametersOf r .ballots) where
+module _ (most : ℕ) (drawn : Bool) (r : List ℕ) (whole : firstWidth (parametersOf r) ≤ length r) (due : item r 0 ≡ firstCode (parametersOf r .form)) (more : most < parametersOf r .ballots) where
   pub beyond : firstFaultUpTo most drawn r ≡ Fault 3 0
   unfolding firstFaultUpTo firstCommandUpTo
   beyond =
       let p = parametersOf r in
       let outside : inLimitsUpTo most p ≡ false = and-fails _ _ .1 (inr (and-fails _ _ .1 (inl (and-fails _ _ .1 (inr (not-atMost more)))))) in
-      let three : 3 ≡ inCommand p r First (firstRulesUpTo most r) = rule-go 1 _ _ (is-below (omega (arith, whole))) (rule-go 2 _ _ (is-equal due) (rule-go 1 _ _ (is-atMost whole) (rule-stop 3 _ _ outside))) in
+      let fits : 0 + firstWidth p ≤ length r = omega (arith, whole) in
+      let three : 3 ≡ inCommand p r First (firstRulesUpTo most r) = rule-go 1 _ _ (is-below (omega (arith, whole))) (rule-go 2 _ _ (is-equal due) (rule-go 1 _ _ (is-atMost fits) (rule-stop 3 _ _ outside))) in
       let f : Fault 3 0 ≡ firstCommandUpTo most r = located-at 0 3 (λ e. omega arith) ∙ ap (located 0) three in
       then-stop _ _ (λ z. nothing-fault z (sym f)) ∙ sym f
 
@@ -83,15 +84,15 @@ module _ (most : ℕ) (drawn : Bool) (r : List ℕ) (whole : 8 ≤ length r) (du
 
 -- ---- the longest record
 
--- "so the longest record has 37,371,979 bytes"
-pub longest : (p : Parameters) → inLimits p ≡ true → recordLength p ≤ 37371979
+-- "so the longest record has 37,371,979 bytes", or with an election's number 4 bytes more
+pub longest : (p : Parameters) → inLimits p ≡ true → recordLength p ≤ 37371979 + numberWidth (p .form)
 unfolding inLimits modulusInLimits listsInLimits
 longest p h =
     let t = simp rules at h in
     omega (arith, record-length p, mul-le-mul {m₂ = mostBallots} (t .1 .1 .1) (t .1 .0 .1))
 
 -- with as many ballots and lists as there may be, and only then
-pub longest-is : (p : Parameters) → inLimits p ≡ true → recordLength p ≡ 37371979 → (p .ballots ≡ mostBallots) × (p .compared ≡ 12)
+pub longest-is : (p : Parameters) → inLimits p ≡ true → recordLength p ≡ 37371979 + numberWidth (p .form) → (p .ballots ≡ mostBallots) × (p .compared ≡ 12)
 unfolding inLimits modulusInLimits listsInLimits
 longest-is p h e =
     let t = simp rules at h in
@@ -100,9 +101,9 @@ longest-is p h e =
     let all : p .compared * p .ballots ≡ 12 * mostBallots = omega (arith, e, record-length p, fewer, t .1 .0 .1) in
     (many, omega (arith, rw many at all))
 
-stands-longest : (r : List ℕ) → Stands r → length r ≤ 37371979
+stands-longest : (r : List ℕ) → Stands r → length r ≤ 37371979 + numberWidth (parametersOf r .form)
 stands-longest r s = omega (arith, s .laid .long, mul-le-mul {m₂ = mostBallots} (s .valid .compared-high) (s .valid .ballots-high), s .valid .ballots-high)
 
-pub accepted-longest : (drawn : Bool) (r : List ℕ) → judged drawn r ≡ accepted → length r ≤ 37371979
+pub accepted-longest : (drawn : Bool) (r : List ℕ) → judged drawn r ≡ accepted → length r ≤ 37371979 + numberWidth (parametersOf r .form)
 accepted-longest false r e = stands-longest r (accepts-iff r .0 e)
 accepted-longest true r e = stands-longest r (accepts-drawn-iff r .0 e .0)

@@ -12,7 +12,7 @@ use Rattle.laws.specs.Chunks.{chunks, start, chunks-length, chunks-even, start-
 use Rattle.laws.specs.At.{At, at-self, at-move, at-same, at-left, at-right, at-chunk}
 use Rattle.protocol.specs.declared.Parameters.{Parameters}
 use Rattle.protocol.specs.Tablet.{ballotCommand}
-use Rattle.protocol.specs.Layout.{lists, atBallot, atEntry, atFirstDice, atLink, atSecondDice, atBallotHalf, atListHalf, atVote, atFullOpening, atEnd, partOneLength, partTwoLength, partThreeLength}
+use Rattle.protocol.specs.Layout.{numberWidth, lists, atBallot, atEntry, atFirstDice, atLink, atSecondDice, atBallotHalf, atListHalf, atVote, atFullOpening, atEnd, partOneLength, partTwoLength, partThreeLength}
 use Rattle.protocol.specs.Record.{Board, Comparison, Disclosure, firstCommand, entryCommand, firstDiceCommand, linkCommand, secondDiceCommand, ballotHalfCommand, listHalfCommand, voteCommand, fullCommand, partOne, partTwo, halves, partThree, encoding}
 use Rattle.protocol.proofs.Fitting.{Fits}
 use Rattle.protocol.proofs.Widths.{length-first, length-ballot, length-entry, length-first-dice, length-link, length-second-dice, length-ballot-half, length-list-half, length-vote, length-full}
@@ -284,8 +284,8 @@ module _ (b : Board) (k : Comparison) (d : Disclosure) (f : Fits b k d) where
   unfolding atSecondDice
   length-two-parts = omega (arith, length-append (partOne b) (partTwo (b .parameters) k), one-long, two-long)
 
-  -- "The whole is 75 + 316n + 734mn bytes."
-  pub length-encoding : length (encoding b k d) ≡ 75 + 316 * b .parameters .ballots + 734 * (b .parameters .compared * b .parameters .ballots)
+  -- "The whole is 75 + 316n + 734mn bytes.", or 4 bytes longer
+  pub length-encoding : length (encoding b k d) ≡ 75 + numberWidth (b .parameters .form) + 316 * b .parameters .ballots + 734 * (b .parameters .compared * b .parameters .ballots)
   unfolding encoding atFirstDice partThreeLength
   length-encoding =
       let two : List ℕ = partTwo (b .parameters) k in

@@ -21,11 +21,12 @@ use Rattle.protocol.specs.declared.Parameters.{Parameters}
 use Rattle.protocol.specs.declared.Due.the-variants.{First, Ballot}
 use Rattle.protocol.specs.Answers.{answerOf}
 use Rattle.protocol.specs.Terms.{item}
-use Rattle.protocol.specs.Layout.{atBallot}
+use Rattle.protocol.specs.Layout.{firstWidth, atBallot}
 use Rattle.protocol.specs.Record.{parametersOf, idOf}
 use Rattle.protocol.specs.Rules.{firstRules, ballotRules, fault}
 use Rattle.protocol.specs.Judging.{found, ballotFaults}
 use Rattle.protocol.specs.Results.{receiptAt, receiptAmong, receiptRefusal, receiptChecked, ballotsRead, lookupRefusal, lookedUp}
+use Rattle.protocol.proofs.Alike.{parameters-within}
 use Rattle.protocol.proofs.Tested.{fault-iff}
 use Rattle.protocol.proofs.Receipts.{Checkable, checkable-iff, ids-rise, rising}
 
@@ -167,16 +168,12 @@ module _ (r s printed : List ℕ) (h : Alike r s printed) where
   byte-alike a l = sym (getD-take end r a 0 l) ∙ ap (λ (x : List ℕ). getD x a 0) (h .same) ∙ getD-take end s a 0 l
 
   parameters-alike : parametersOf s ≡ parametersOf r
-  unfolding parametersOf atBallot
-  parameters-alike =
-      let a : number s 1 4 ≡ number r 1 4 = sym (number-same r s end 1 4 (h .same) (omega arith)) in
-      let b : number s 5 2 ≡ number r 5 2 = sym (number-same r s end 5 2 (h .same) (omega arith)) in
-      let c : number s 7 1 ≡ number r 7 1 = sym (number-same r s end 7 1 (h .same) (omega arith)) in
-      rw (a, b, c)
+  unfolding atBallot
+  parameters-alike = sym (parameters-within r s end (h .same) (omega arith))
 
   id-alike : (j : ℕ) → j < k → idOf q s j ≡ idOf q r j
   unfolding idOf atBallot
-  id-alike j l = sym (number-same r s end (8 + 197 * j + 1) 4 (h .same) (omega arith))
+  id-alike j l = sym (number-same r s end (firstWidth q + 197 * j + 1) 4 (h .same) (omega arith))
 
   read-alike : ballotsRead q s printed (q .ballots) ≡ k
   read-alike = go (stops q r printed (q .ballots))
@@ -189,14 +186,15 @@ module _ (r s printed : List ℕ) (h : Alike r s printed) where
   unfolding fault firstRules atBallot
   first-fault-alike =
       let a : below 0 (length s) ≡ below 0 (length r) = below-iff 0 (length s) .1 (omega (arith, h .long′)) ∙ sym (below-iff 0 (length r) .1 (omega (arith, h .long))) in
-      let b : atMost 8 (length s) ≡ atMost 8 (length r) = atMost-iff 8 (length s) .1 (omega (arith, h .long′)) ∙ sym (atMost-iff 8 (length r) .1 (omega (arith, h .long))) in
+      let w : ℕ = 0 + firstWidth q in
+      let b : atMost w (length s) ≡ atMost w (length r) = atMost-iff w (length s) .1 (omega (arith, h .long′)) ∙ sym (atMost-iff w (length r) .1 (omega (arith, h .long))) in
       let c : item s 0 ≡ item r 0 = sym (byte-alike 0 (omega arith)) in
       rw (a, b, c, parameters-alike)
 
   ballot-fault-alike : (j : ℕ) → j < k → fault q s false (Ballot j) ≡ fault q r false (Ballot j)
   unfolding fault ballotRules atBallot
   ballot-fault-alike j l =
-      let at : ℕ = 8 + 197 * j in
+      let at : ℕ = firstWidth q + 197 * j in
       let a : below at (length s) ≡ below at (length r) = below-iff at (length s) .1 (omega (arith, h .long′)) ∙ sym (below-iff at (length r) .1 (omega (arith, h .long))) in
       let b : atMost (at + 197) (length s) ≡ atMost (at + 197) (length r) = atMost-iff (at + 197) (length s) .1 (omega (arith, h .long′)) ∙ sym (atMost-iff (at + 197) (length r) .1 (omega (arith, h .long))) in
       let c : item s at ≡ item r at = sym (byte-alike at (omega arith)) in
@@ -212,7 +210,8 @@ module _ (r s printed : List ℕ) (h : Alike r s printed) where
   among-alike zero l = refl
   among-alike (suc n) l =
       let a : idOf q s n ≡ idOf q r n = id-alike n l in
-      let b : piece s (8 + 197 * n) 197 ≡ piece r (8 + 197 * n) 197 = sym (piece-same r s end (8 + 197 * n) 197 (h .same) (omega arith)) in
+      let at : ℕ = firstWidth q + 197 * n in
+      let b : piece s at 197 ≡ piece r at 197 = sym (piece-same r s end at 197 (h .same) (omega arith)) in
       rw (a, b, among-alike n (omega arith))
 
   -- the answer is the same, a refusal too
@@ -232,7 +231,7 @@ module _ (r printed : List ℕ) (c : Checkable r printed) where
   unfolding atBallot
   reaches = go (readOf r printed) (reads-most (parametersOf r) r printed (parametersOf r .ballots))
     where
-      go : (n : ℕ) → n ≤ parametersOf r .ballots → 8 + 197 * n ≤ length r
+      go : (n : ℕ) → n ≤ parametersOf r .ballots → firstWidth (parametersOf r) + 197 * n ≤ length r
       go zero l = omega (arith, fault-iff false (parametersOf r) r First .0 (c .first) .1 .0)
       go (suc n) l = omega (arith, fault-iff false (parametersOf r) r (Ballot n) .0 (c .ballots n l) .1 .0)
 

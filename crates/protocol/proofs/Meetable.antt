@@ -13,10 +13,11 @@ use lib.Pow.{pow-mono, shl-lt, pow-pos}
 use Rattle.laws.specs.Bytes.{Below}
 use Rattle.laws.specs.Tests.{equal, differ, below, atMost, _and_, _or_, every}
 use Rattle.laws.specs.Faults.{rule}
+use Rattle.protocol.specs.declared.Form.the-variants.{Unnumbered}
 use Rattle.protocol.specs.Answers.{accepted}
-use Rattle.protocol.specs.Terms.{parameters, inLimits, modulusInLimits, ballotsInLimits, listsInLimits, allBelow}
+use Rattle.protocol.specs.Terms.{electionNumber, parameters, inLimits, modulusInLimits, ballotsInLimits, listsInLimits, allBelow}
 use Rattle.protocol.specs.Columns.{isPermutation}
-use Rattle.protocol.specs.Layout.{atFirstDice, atSecondDice, atBallotHalf, atVote, atEnd, partThreeLength}
+use Rattle.protocol.specs.Layout.{numberWidth, atFirstDice, atSecondDice, atBallotHalf, atVote, atEnd, partThreeLength}
 use Rattle.protocol.specs.Record.{Board, Comparison, Disclosure, encoding}
 use Rattle.protocol.specs.Drawing.{challenge}
 use Rattle.protocol.specs.Rules.{fairDie, fairDice, rightShape}
@@ -27,7 +28,7 @@ use Rattle.protocol.specs.Results.{announcedVotes}
 use Rattle.protocol.specs.Election.{chosen, drawn, maskBy, secondRefusal, thirdRefusal, maskInShape, sidesDue, sidesBinary, electionRefusal, electionMask, electionRecord}
 use Rattle.protocol.specs.Demand3.{Triple, Announces}
 use Rattle.protocol.proofs.Fitting.{Fits}
-use Rattle.protocol.proofs.Goodness.{Good}
+use Rattle.protocol.proofs.Goodness.{FourBytes, Good}
 use Rattle.protocol.proofs.Unrefused.{unrefused, good-inputs, shape-iff, binary-iff}
 use Rattle.protocol.proofs.Drawing.{drawn-mask}
 use Rattle.protocol.proofs.Reading.{read-parameters, read-mask, read-side}
@@ -90,10 +91,10 @@ masks-differ m l e =
 ones30 : List ℕ
 ones30 = replicate 30 49
 
-module _ (s : Slices) (outLong : ℕ) (ids : Below 4294967296 (s .ids)) (h : partOneRefusal s outLong ≡ 0) where
+module _ (s : Slices) (outLong : ℕ) (fit : FourBytes s) (h : partOneRefusal s outLong ≡ 0) where
   good : Good (inputsOf s)
   unfolding partOneRefusal
-  good = good-inputs s (unrefused s _ _ _ _ h) ids
+  good = good-inputs s (unrefused s _ _ _ _ h) fit
 
   same-sides : ℕ → List ℕ
   same-sides b = replicate (s .parameters .ballots) b
@@ -154,7 +155,7 @@ module _ (s : Slices) (outLong : ℕ) (ids : Below 4294967296 (s .ids)) (h : par
 pub tiny : Slices
 tiny =
     record {
-      parameters = parameters 2 1 1;
+      parameters = parameters Unnumbered 2 1 1;
       ids = 7 ∷ [];
       votes = 1 ∷ [];
       numbers = replicate 23 1;
@@ -176,30 +177,34 @@ unfolding tiny
 tiny-ids zero l = omega arith
 tiny-ids (suc i) l = absurd (omega arith)
 
+tiny-fits : FourBytes tiny
+unfolding tiny electionNumber
+tiny-fits = record { ids = tiny-ids; election = omega arith }
+
 -- part one of the smallest election has 597 bytes
 pub tiny-part-one : partOneRefusal tiny 597 ≡ 0
-unfolding tiny partOneRefusal atFirstDice refusal inLimits modulusInLimits ballotsInLimits listsInLimits dueLengths idsRise allBelow allPermutations isPermutation inputsOf listPermutations rule equal differ below atMost _and_ _or_ every
+unfolding tiny partOneRefusal atFirstDice numberWidth refusal inLimits modulusInLimits ballotsInLimits listsInLimits dueLengths idsRise allBelow allPermutations isPermutation inputsOf listPermutations rule equal differ below atMost _and_ _or_ every
 tiny-part-one = refl
 
 -- masks 1 and 2; sides 0, 1 and 0
 pub tiny-triple : Triple (written tiny allOnes 1 allOnes (0 ∷ [])) (written tiny allOnes 1 allOnes (1 ∷ [])) (written tiny allOnes 2 allOnes (0 ∷ []))
 unfolding tiny
-tiny-triple = triple tiny 597 tiny-ids tiny-part-one
+tiny-triple = triple tiny 597 tiny-fits tiny-part-one
 
 pub tiny-announces : Announces (written tiny allOnes 1 allOnes (0 ∷ [])) (written tiny allOnes 1 allOnes (1 ∷ [])) (written tiny allOnes 2 allOnes (0 ∷ []))
 unfolding tiny
-tiny-announces = triple-announces tiny 597 tiny-ids tiny-part-one
+tiny-announces = triple-announces tiny 597 tiny-fits tiny-part-one
 
 -- ---- and what completeness supposes holds of it: mask and sides drawn
 
 -- part two has 45 bytes
 tiny-part-two : partTwoDrawnRefusal tiny allOnes 597 45 ≡ 0
-unfolding tiny partTwoDrawnRefusal atFirstDice fairDice fairDie refusal inLimits modulusInLimits ballotsInLimits listsInLimits dueLengths idsRise allBelow allPermutations isPermutation inputsOf listPermutations rule equal differ below atMost _and_ _or_ every
+unfolding tiny partTwoDrawnRefusal atFirstDice numberWidth fairDice fairDie refusal inLimits modulusInLimits ballotsInLimits listsInLimits dueLengths idsRise allBelow allPermutations isPermutation inputsOf listPermutations rule equal differ below atMost _and_ _or_ every
 tiny-part-two = refl
 
 -- part three has 483 bytes; of the mask only its shape counts
 tiny-part-three : (mask : ℕ) → rightShape 1 mask ≡ true → partThreeDrawnRefusal tiny allOnes mask 597 45 483 ≡ 0
-unfolding tiny partThreeDrawnRefusal atFirstDice partThreeLength fairDice fairDie refusal inLimits modulusInLimits ballotsInLimits listsInLimits dueLengths idsRise allBelow allPermutations isPermutation inputsOf listPermutations rule equal differ below atMost _and_ _or_ every
+unfolding tiny partThreeDrawnRefusal atFirstDice numberWidth partThreeLength fairDice fairDie refusal inLimits modulusInLimits ballotsInLimits listsInLimits dueLengths idsRise allBelow allPermutations isPermutation inputsOf listPermutations rule equal differ below atMost _and_ _or_ every
 tiny-part-three mask h = rw h
 
 tiny-unrefusing : Unrefusing tiny drawn allOnes drawn allOnes
@@ -212,13 +217,13 @@ tiny-unrefusing = record {
 
 -- drawn judging accepts its record, which announces its one vote
 pub tiny-accepted : judged true (electionRecord tiny drawn allOnes drawn allOnes) ≡ accepted
-tiny-accepted = complete-drawn tiny allOnes allOnes tiny-ids tiny-unrefusing
+tiny-accepted = complete-drawn tiny allOnes allOnes tiny-fits tiny-unrefusing
 
 pub tiny-announced : announcedVotes (electionRecord tiny drawn allOnes drawn allOnes) ≡ 1 ∷ []
 unfolding tiny
-tiny-announced = complete tiny drawn allOnes drawn allOnes tiny-ids tiny-unrefusing .1
+tiny-announced = complete tiny drawn allOnes drawn allOnes tiny-fits tiny-unrefusing .1
 
 -- the three calls as one, mask and sides given: the record has 1,125 bytes
 pub tiny-election : electionRefusal tiny (chosen 1) allOnes (chosen (0 ∷ [])) allOnes 597 45 483 1125 ≡ 0
-unfolding tiny electionRefusal maskInShape sidesDue sidesBinary binarySides rightShape ones atFirstDice atSecondDice atBallotHalf atVote atEnd partThreeLength fairDice fairDie refusal inLimits modulusInLimits ballotsInLimits listsInLimits dueLengths idsRise allBelow allPermutations isPermutation inputsOf listPermutations rule equal differ below atMost _and_ _or_ every
+unfolding tiny electionRefusal maskInShape sidesDue sidesBinary binarySides rightShape ones atFirstDice numberWidth atSecondDice atBallotHalf atVote atEnd partThreeLength fairDice fairDie refusal inLimits modulusInLimits ballotsInLimits listsInLimits dueLengths idsRise allBelow allPermutations isPermutation inputsOf listPermutations rule equal differ below atMost _and_ _or_ every
 tiny-election = refl

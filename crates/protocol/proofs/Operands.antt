@@ -6,12 +6,17 @@ use native.Mathlib.Nat.{add-zero}
 use native.Mathlib.Omega.{arith}
 use lib.ListN.{length, length-append}
 use Rattle.laws.specs.Bytes.{number, bytes, length-bytes, number-bytes}
+use Rattle.laws.specs.Tests.{equal}
 use Rattle.laws.specs.Chunks.{chunks, piece}
 use Rattle.laws.specs.At.{At, at-self, at-move, at-left, at-right, at-in, at-get, at-number, at-whole, field}
+use Rattle.protocol.specs.declared.Form.{Form}
+use Rattle.protocol.specs.declared.Form.the-variants.{Unnumbered, Numbered}
 use Rattle.protocol.specs.declared.Parameters.{Parameters}
-use Rattle.protocol.specs.Terms.{item}
+use Rattle.protocol.specs.Terms.{item, electionNumber}
 use Rattle.protocol.specs.Tablet.{ballotCommand}
-use Rattle.protocol.specs.Record.{firstCommand, entryCommand, firstDiceCommand, linkCommand, secondDiceCommand, ballotHalfCommand, listHalfCommand, voteCommand, fullCommand}
+use Rattle.protocol.specs.Layout.{firstCode, numberWidth}
+use Rattle.protocol.specs.Record.{formOf, parametersOf, formBytes, firstCommand, entryCommand, firstDiceCommand, linkCommand, secondDiceCommand, ballotHalfCommand, listHalfCommand, voteCommand, fullCommand}
+use Rattle.protocol.proofs.Widths.{length-form}
 
 -- ---- reading what stands at a place
 
@@ -23,6 +28,20 @@ reads-byte {r} {c} {a} x h = ap (λ (k : ℕ). item r k) (sym (add-zero a)) ∙ 
 pub reads-number : {r c : List ℕ} {a b : ℕ} (w x : ℕ) → At r a c → At c b (bytes w x) → x < 256 ^ w → number r (a + b) w ≡ x
 reads-number {r} {c} {a} {b} w x h k small =
     ap (λ (i : ℕ). number r i w) (sym (add-zero (a + b))) ∙ at-number (at-in h k) 0 w (omega (arith, length-bytes w x)) ∙ number-bytes w x small
+
+-- the first command's byte, and its form
+reads-code : {r : List ℕ} {a : ℕ} (form : Form) → At r a (formBytes form) → item r a ≡ firstCode form
+unfolding formBytes firstCode
+reads-code Unnumbered h = reads-byte 1 h
+reads-code (Numbered election) h = reads-byte 12 h
+
+reads-form : {r : List ℕ} (form : Form) → At r 0 (formBytes form) → electionNumber form < 4294967296 → formOf r ≡ form
+unfolding formBytes formOf electionNumber equal
+reads-form {r} Unnumbered h small = let b : item r 0 ≡ 1 = reads-byte 1 h in rw b
+reads-form {r} (Numbered election) h small =
+    let b : item r 0 ≡ 12 = reads-byte 12 h in
+    let e : number r 1 4 ≡ election = reads-number 4 election h (at-right (12 ∷ []) (at-self (bytes 4 election))) small in
+    rw (b, e)
 
 -- a piece
 pub reads-piece : {r c : List ℕ} {a b : ℕ} (at w : ℕ) (d : List ℕ) → At r a c → At c b d → at ≡ a + b → length d ≡ w → piece r at w ≡ d
@@ -42,21 +61,56 @@ piece-in head f h w n k e wide l = at-move (omega arith) (field head f w n k wid
 -- ---- the commands
 
 module _ (p : Parameters) where
-  pub first-modulus : At (firstCommand p) 1 (bytes 4 (p .modulus))
-  unfolding firstCommand
-  first-modulus = number-in 1 4 (p .modulus) (bytes 2 (p .ballots) ++ bytes 1 (p .compared))
+  abbrev head : List ℕ
+  head = formBytes (p .form) ++ bytes 4 (p .modulus)
 
-  pub first-ballots : At (firstCommand p) 5 (bytes 2 (p .ballots))
+  length-head : length head ≡ 5 + numberWidth (p .form)
+  length-head = omega (arith, length-append (formBytes (p .form)) (bytes 4 (p .modulus)), length-form (p .form), length-bytes 4 (p .modulus))
+
+  pub first-form : At (firstCommand p) 0 (formBytes (p .form))
+  unfolding firstCommand
+  first-form = at-left (bytes 2 (p .ballots) ++ bytes 1 (p .compared)) (at-left (bytes 4 (p .modulus)) (at-self (formBytes (p .form))))
+
+  pub first-modulus : At (firstCommand p) (1 + numberWidth (p .form)) (bytes 4 (p .modulus))
+  unfolding firstCommand
+  first-modulus =
+      at-left (bytes 2 (p .ballots) ++ bytes 1 (p .compared))
+      (at-move (omega (arith, length-form (p .form))) (at-right (formBytes (p .form)) (at-self (bytes 4 (p .modulus)))))
+
+  pub first-ballots : At (firstCommand p) (5 + numberWidth (p .form)) (bytes 2 (p .ballots))
   unfolding firstCommand
   first-ballots =
-      at-move (omega (arith, length-bytes 4 (p .modulus)))
-      (at-right (1 ∷ bytes 4 (p .modulus)) (at-left (bytes 1 (p .compared)) (at-self (bytes 2 (p .ballots)))))
+      at-move (omega (arith, length-head))
+      (at-right head (at-left (bytes 1 (p .compared)) (at-self (bytes 2 (p .ballots)))))
 
-  pub first-compared : At (firstCommand p) 7 (bytes 1 (p .compared))
+  pub first-compared : At (firstCommand p) (7 + numberWidth (p .form)) (bytes 1 (p .compared))
   unfolding firstCommand
   first-compared =
-      at-move (omega (arith, length-bytes 4 (p .modulus), length-bytes 2 (p .ballots)))
-      (at-right (1 ∷ bytes 4 (p .modulus)) (at-right (bytes 2 (p .ballots)) (at-self (bytes 1 (p .compared)))))
+      at-move (omega (arith, length-head, length-bytes 2 (p .ballots)))
+      (at-right head (at-right (bytes 2 (p .ballots)) (at-self (bytes 1 (p .compared)))))
+
+  pub reads-first : {r : List ℕ} {a : ℕ} → At r a (firstCommand p) → item r a ≡ firstCode (p .form)
+  reads-first {r} {a} h = reads-code (p .form) (at-move (add-zero a) (at-in h first-form))
+
+  -- what is read of it, in types that hold it
+  module _ {r : List ℕ} (h : At r 0 (firstCommand p)) (election : electionNumber (p .form) < 4294967296)
+      (modulus : p .modulus < 4294967296) (ballots : p .ballots < 65536) (compared : p .compared < 256) where
+    form-is : formOf r ≡ p .form
+    form-is = reads-form (p .form) (at-in h first-form) election
+
+    operand : (b w x : ℕ) → At (firstCommand p) b (bytes w x) → x < 256 ^ w → number r b w ≡ x
+    operand b w x k small = let z : b ≡ 0 + b = omega arith in ap (λ (i : ℕ). number r i w) z ∙ reads-number w x h k small
+
+    pub reads-parameters : parametersOf r ≡ p
+    unfolding parametersOf
+    reads-parameters =
+        let w : ℕ = numberWidth (p .form) in
+        rw (
+          form-is,
+          operand (1 + w) 4 (p .modulus) first-modulus modulus,
+          operand (5 + w) 2 (p .ballots) first-ballots ballots,
+          operand (7 + w) 1 (p .compared) first-compared compared,
+        )
 
 module _ (id : ℕ) (c : ℕ → List ℕ) where
   pub ballot-id : At (ballotCommand id c) 1 (bytes 4 id)

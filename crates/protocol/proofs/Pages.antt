@@ -8,6 +8,7 @@ use native.Mathlib.Omega.{arith}
 use lib.ListN.{length}
 use Rattle.laws.specs.Tests.{atMost, equal, choose, is-atMost, not-atMost, equal-iff}
 use Rattle.laws.specs.Faults.{rule, rule-kept, rules, numberOf}
+use Rattle.protocol.specs.declared.Form.{Form}
 use Rattle.protocol.specs.Answers.{done, refused, answerOf, accepted}
 use Rattle.protocol.specs.Terms.{modulusInLimits, ballotsInLimits, listsInLimits, inLimits, decimal}
 use Rattle.protocol.specs.Layout.{partOneLength}
@@ -15,7 +16,7 @@ use Rattle.protocol.specs.Record.{parametersOf}
 use Rattle.protocol.specs.Judging.{firstFault, judged}
 use Rattle.protocol.specs.Inputs.{Slices, inputsOf, refusal, partTwoDrawnRefusal}
 use Rattle.protocol.specs.Servers.{postedBoard, firstPart, maskFor}
-use Rattle.protocol.specs.Results.{announcedVotes, announcedRefusal, acceptedWord, refusedWord, tooLongWord, tallyLines, pageOf, page, drawRefusal, drawn}
+use Rattle.protocol.specs.Results.{announcedVotes, announcedRefusal, acceptedLines, refusedWord, tooLongWord, tallyLines, pageOf, page, drawRefusal, drawn}
 use Rattle.protocol.proofs.Honesty.{length-commitment}
 use Rattle.protocol.proofs.Unrefused.{unrefused}
 use Rattle.protocol.proofs.Receipts.{number-done}
@@ -49,14 +50,15 @@ module _ (drawn : Bool) (r : List ℕ) where
 
 -- ---- the page
 
-refused-page : (k : ℕ) (votes : List ℕ) → k ≢ 0 → pageOf k votes ≡ refusedWord ++ (decimal k ++ (10 ∷ []))
+refused-page : (k : ℕ) (form : Form) (votes : List ℕ) → k ≢ 0 → pageOf k form votes ≡ refusedWord ++ (decimal k ++ (10 ∷ []))
 unfolding pageOf
-refused-page zero votes ne = absurd (ne refl)
-refused-page (suc k) votes ne = refl
+refused-page zero form votes ne = absurd (ne refl)
+refused-page (suc k) form votes ne = refl
 
 module _ (r : List ℕ) where
   -- "judges it as drawn, and writes the line `ACCEPTED`, then per distinct announced vote, rising, a line"
-  pub page-accepted : length r ≤ 65536 → judged true r ≡ accepted → page r ≡ (acceptedWord ++ (10 ∷ [])) ++ tallyLines (announcedVotes r)
+  pub page-accepted : length r ≤ 65536 → judged true r ≡ accepted
+      → page r ≡ acceptedLines (parametersOf r .form) ++ tallyLines (announcedVotes r)
   unfolding page pageOf
   page-accepted h e =
       let t : atMost (length r) 65536 ≡ true = is-atMost h in
@@ -69,7 +71,7 @@ module _ (r : List ℕ) where
   page-refused h k e =
       let t : atMost (length r) 65536 ≡ true = is-atMost h in
       let z : numberOf (firstFault true r) ≡ k = refused-number true r k e in
-      rw (t, z) (refused-page k (announcedVotes r) (refused-some true r k e))
+      rw (t, z) (refused-page k (parametersOf r .form) (announcedVotes r) (refused-some true r k e))
 
   -- "a longer input gives `TOO LONG`"
   pub page-too-long : 65536 < length r → page r ≡ tooLongWord ++ (10 ∷ [])

@@ -2,25 +2,16 @@
 use mathlib.Core.Path.{_≡_, refl, ap}
 use Prim.Native.Nat.{ℕ, _+_, _*_, _<_}
 use native.Mathlib.Omega.{arith}
-use Rattle.laws.specs.Bytes.{number}
 use Rattle.laws.specs.Masks.{bit, setBefore, clearBefore}
 use Rattle.protocol.specs.Layout.{lists, atBallot, atEntry, atFirstDice, atLink, atSecondDice, atBallotHalf, atListHalf, atFullOpening}
 use Rattle.protocol.specs.Record.{Board, Comparison, Disclosure, encoding, parametersOf, idOf, ballotCommitmentOf, entryCommitmentOf, firstDiceOf, maskOf, linkPlace, positionOf, shiftOf, secondDiceOf, sideOf, ballotOpeningOf, listHalfPlace, listOpeningOf, voteOf, fullPlace, fullOpeningOf}
 use Rattle.protocol.proofs.Fitting.{Fits}
-use Rattle.protocol.proofs.Operands.{reads-number, reads-piece, first-modulus, first-ballots, first-compared, ballot-id, ballot-commitment, entry-commitment, first-dice-dice, first-dice-mask, link-position, link-shift, second-dice-dice, ballot-half-side, ballot-half-opening, list-half-opening, vote-vote, full-opening}
+use Rattle.protocol.proofs.Operands.{reads-number, reads-piece, reads-parameters, ballot-id, ballot-commitment, entry-commitment, first-dice-dice, first-dice-mask, link-position, link-shift, second-dice-dice, ballot-half-side, ballot-half-opening, list-half-opening, vote-vote, full-opening}
 use Rattle.protocol.proofs.Locating.{at-first, at-ballot, at-entry, at-first-dice, at-link, at-second-dice, at-ballot-half, at-list-half, at-vote, at-full}
 
 module _ (b : Board) (k : Comparison) (d : Disclosure) (f : Fits b k d) where
   pub read-parameters : parametersOf (encoding b k d) ≡ b .parameters
-  unfolding parametersOf
-  read-parameters =
-      let e : number (encoding b k d) 1 4 ≡ b .parameters .modulus =
-      reads-number 4 (b .parameters .modulus) (at-first b k d f) (first-modulus (b .parameters)) (f .modulus) in
-      let g : number (encoding b k d) 5 2 ≡ b .parameters .ballots =
-      reads-number 2 (b .parameters .ballots) (at-first b k d f) (first-ballots (b .parameters)) (f .ballots) in
-      let h : number (encoding b k d) 7 1 ≡ b .parameters .compared =
-      reads-number 1 (b .parameters .compared) (at-first b k d f) (first-compared (b .parameters)) (omega arith) in
-      rw (e, g, h)
+  read-parameters = reads-parameters (b .parameters) (at-first b k d f) (f .election) (f .modulus) (f .ballots) (omega (arith, f .compared))
 
   pub read-id : (j : ℕ) → j < b .parameters .ballots → idOf (b .parameters) (encoding b k d) j ≡ b .id j
   unfolding idOf

@@ -31,10 +31,10 @@ use Rattle.protocol.specs.Judging.{found, ballotFaults}
 use Rattle.protocol.specs.Inputs.{Slices, inputsOf, partOneRefusal}
 use Rattle.protocol.specs.Servers.{postedBoard, firstPart}
 use Rattle.protocol.specs.Results.{receiptAt, receiptAmong, receiptRefusal, receiptChecked}
-use Rattle.protocol.proofs.Goodness.{Good}
+use Rattle.protocol.proofs.Goodness.{FourBytes, Good}
 use Rattle.protocol.proofs.Honesty.{length-commitment}
 use Rattle.protocol.proofs.Unrefused.{unrefused, good-inputs}
-use Rattle.protocol.proofs.Operands.{reads-byte, reads-number, first-modulus, first-ballots, first-compared, ballot-id}
+use Rattle.protocol.proofs.Operands.{reads-byte, reads-number, reads-first, reads-parameters, ballot-id}
 use Rattle.protocol.proofs.Locating.{length-part-one, first-in}
 use Rattle.protocol.proofs.Lengths.{first-inside, ballot-inside}
 use Rattle.protocol.proofs.Tested.{fault-iff, first-tests, ballot-tests}
@@ -238,10 +238,10 @@ unfolding receipt
 receipt-hash id command = at-whole 4 28 (sha3-224-length command) (at-move (omega (arith, length-bytes 4 id)) (at-right (bytes 4 id) (at-self (sha3-224 command))))
 
 -- part one, written from inputs that are not refused, with any bytes behind it
-module _ (s : Slices) (outLong : ℕ) (unrefusing : partOneRefusal s outLong ≡ 0) (ids : Below 4294967296 (s .ids)) (rest : List ℕ) where
+module _ (s : Slices) (outLong : ℕ) (unrefusing : partOneRefusal s outLong ≡ 0) (fit : FourBytes s) (rest : List ℕ) where
   good : Good (inputsOf s)
   unfolding partOneRefusal
-  good = good-inputs s (unrefused s _ _ _ _ unrefusing) ids
+  good = good-inputs s (unrefused s _ _ _ _ unrefusing) fit
 
   first-at : At (firstPart s ++ rest) 0 (firstCommand (inputsOf s .parameters))
   unfolding firstPart postedBoard
@@ -251,14 +251,9 @@ module _ (s : Slices) (outLong : ℕ) (unrefusing : partOneRefusal s outLong ≡
   ballot-at j lj = at-left rest (tablet-at s j lj)
 
   pub begins-parameters : parametersOf (firstPart s ++ rest) ≡ inputsOf s .parameters
-  unfolding parametersOf
   begins-parameters =
-      let r = firstPart s ++ rest in
-      let p = inputsOf s .parameters in
-      let e : number r 1 4 ≡ p .modulus = reads-number 4 (p .modulus) first-at (first-modulus p) (omega (arith, good .modulus-high)) in
-      let f : number r 5 2 ≡ p .ballots = reads-number 2 (p .ballots) first-at (first-ballots p) (omega (arith, good .ballots-high)) in
-      let g : number r 7 1 ≡ p .compared = reads-number 1 (p .compared) first-at (first-compared p) (omega (arith, good .compared-high)) in
-      rw (e, f, g)
+      reads-parameters (inputsOf s .parameters) first-at (good .election-fits)
+      (omega (arith, good .modulus-high)) (omega (arith, good .ballots-high)) (omega (arith, good .compared-high))
 
   pub begins-id : (j : ℕ) → j < inputsOf s .parameters .ballots → idOf (inputsOf s .parameters) (firstPart s ++ rest) j ≡ inputsOf s .id j
   unfolding idOf postedBoard
@@ -277,12 +272,11 @@ module _ (s : Slices) (outLong : ℕ) (unrefusing : partOneRefusal s outLong ≡
       )
 
   first-ok : fault (inputsOf s .parameters) (firstPart s ++ rest) false First ≡ 0
-  unfolding firstCommand
   first-ok =
       let r = firstPart s ++ rest in
       let p = inputsOf s .parameters in
       fault-iff false p r First .1 (
-        reads-byte 1 first-at,
+        reads-first p first-at,
         (
           omega (arith, first-inside p, long),
           first-tests false p r .1 (rw begins-parameters ((good .modulus-low, good .modulus-high), ((good .ballots-low, good .ballots-high), (good .compared-low, good .compared-high)))),

@@ -5,14 +5,17 @@ use Prim.Native.Nat.{ℕ, suc, _+_, _-_, _*_, _≤_, _<_}
 use native.Mathlib.Omega.{arith}
 use lib.ListN.{length}
 use Rattle.laws.specs.Bytes.{number, bytes, Below}
+use Rattle.laws.specs.Tests.{equal}
 use Rattle.laws.specs.Masks.{bit, setBefore, clearBefore, set-ones, set-clear}
 use Rattle.laws.specs.Chunks.{piece, chunks}
 use Rattle.laws.specs.Spans.{Span, span-move, span-join, span-piece, span-one, span-number, span-chunks, span-pieces, span-whole, span-set, span-clear}
+use Rattle.protocol.specs.declared.Form.{Form}
+use Rattle.protocol.specs.declared.Form.the-variants.{Unnumbered, Numbered}
 use Rattle.protocol.specs.declared.Parameters.{Parameters}
-use Rattle.protocol.specs.Terms.{item}
+use Rattle.protocol.specs.Terms.{item, electionNumber}
 use Rattle.protocol.specs.Tablet.{ballotCommand}
-use Rattle.protocol.specs.Layout.{lists, atBallot, atEntry, atFirstDice, atLink, atSecondDice, atBallotHalf, atListHalf, atVote, atFullOpening, atEnd, recordLength}
-use Rattle.protocol.specs.Record.{parametersOf, idOf, ballotCommitmentOf, entryCommitmentOf, firstDiceOf, maskOf, linkPlace, positionOf, shiftOf, secondDiceOf, sideOf, ballotOpeningOf, listHalfPlace, listOpeningOf, voteOf, fullPlace, fullOpeningOf, boardOf, comparisonOf, disclosureOf, firstCommand, entryCommand, firstDiceCommand, linkCommand, secondDiceCommand, ballotHalfCommand, listHalfCommand, voteCommand, fullCommand, partOne, partTwo, halves, partThree, encoding}
+use Rattle.protocol.specs.Layout.{firstCode, numberWidth, firstWidth, lists, atBallot, atEntry, atFirstDice, atLink, atSecondDice, atBallotHalf, atListHalf, atVote, atFullOpening, atEnd, recordLength}
+use Rattle.protocol.specs.Record.{formOf, parametersOf, idOf, ballotCommitmentOf, entryCommitmentOf, firstDiceOf, maskOf, linkPlace, positionOf, shiftOf, secondDiceOf, sideOf, ballotOpeningOf, listHalfPlace, listOpeningOf, voteOf, fullPlace, fullOpeningOf, boardOf, comparisonOf, disclosureOf, formBytes, firstCommand, entryCommand, firstDiceCommand, linkCommand, secondDiceCommand, ballotHalfCommand, listHalfCommand, voteCommand, fullCommand, partOne, partTwo, halves, partThree, encoding}
 use Rattle.protocol.specs.Stands.{Laid, Stands}
 use Rattle.protocol.proofs.Lengths.{first-next, ballot-next, ballots-end, entry-next, entry-list-end, entries-end, first-dice-next, link-next, link-list-end, links-end, second-dice-next, ballot-half-next, list-half-next, list-halves-end, halves-end, vote-next, votes-end, full-next, full-list-end, full-openings-end}
 use Rattle.protocol.proofs.Within.{Shaped, stands-shaped, first-within, ballot-within, entry-within, first-dice-within, link-within, second-dice-within, ballot-half-within, list-half-within, vote-within, full-within, end-within}
@@ -127,11 +130,21 @@ module _ {r : List ℕ} (small : Below 256 r) (stands : Stands r) where
   shaped-here : Shaped (parametersOf r) r
   shaped-here = stands-shaped stands
 
-  first-span : Span r 0 8 (firstCommand (parametersOf r))
+  -- the command byte, and the election's number
+  form-span : (form : Form) → formOf r ≡ form → item r 0 ≡ firstCode form → 1 + numberWidth form ≤ length r → Span r 0 (1 + numberWidth form) (formBytes form)
+  unfolding formBytes numberWidth firstCode formOf electionNumber equal
+  form-span Unnumbered is h l = span-one r 0 1 h l
+  form-span (Numbered election) is h l = opens small 0 12 4 election h (ap electionNumber (rw h at is)) l
+
+  first-span : Span r 0 (firstWidth (parametersOf r)) (firstCommand (parametersOf r))
   unfolding firstCommand parametersOf
   first-span =
-      let w : 8 ≤ length r = first-within shaped-here in
-      span-join (opens small 0 1 4 _ (stands .laid .first) refl (omega arith)) (span-join (span-number r 5 2 _ small refl (omega arith)) (span-number r 7 1 _ small refl w))
+      let w : ℕ = numberWidth (formOf r) in
+      let l : 8 + w ≤ length r = first-within shaped-here in
+      ends
+      (span-join (more small (form-span (formOf r) refl (stands .laid .first) (omega arith)) (1 + w) 4 _ (omega arith) refl (omega arith))
+      (span-join (span-move (omega arith) refl (span-number r (5 + w) 2 _ small refl (omega arith))) (span-move (omega arith) refl (span-number r (7 + w) 1 _ small refl (omega arith)))))
+      (omega arith)
 
   -- of the 2m lists m are compared, and m are opened
   set-all : setBefore (maskOf (parametersOf r) r) (lists (parametersOf r)) ≡ parametersOf r .compared

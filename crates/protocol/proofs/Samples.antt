@@ -13,16 +13,17 @@ use Rattle.laws.specs.Bytes.{number, bytes}
 use Rattle.laws.specs.Tables.{tabulate}
 use Rattle.laws.specs.Modular.{plus, minus}
 use Rattle.laws.specs.Permuting.{permutes}
+use Rattle.protocol.specs.declared.Form.the-variants.{Unnumbered, Numbered}
 use Rattle.protocol.specs.Terms.{parameters, item, allBelow, inLimits, modulusInLimits, ballotsInLimits, listsInLimits, opening, digits, decimal}
 use Rattle.protocol.specs.Tablet.{oneOfThree, share, slot, ballotCommand, receipt, tabletRefusal}
 use Rattle.protocol.specs.Columns.{row, thirdOffset, source, rowServer, thirdOffsets, secondHalves, isPermutation, rowRefusal, pairRefusal}
-use Rattle.protocol.specs.Layout.{atFirstDice, atSecondDice, atBallotHalf, atVote, atEnd, recordLength}
-use Rattle.protocol.specs.Record.{firstCommand, entryCommand, firstDiceCommand, linkCommand, secondDiceCommand, ballotHalfCommand, listHalfCommand, voteCommand, fullCommand, parametersOf}
+use Rattle.protocol.specs.Layout.{firstCode, numberWidth, atFirstDice, atSecondDice, atBallotHalf, atVote, atEnd, recordLength}
+use Rattle.protocol.specs.Record.{formOf, formBytes, firstCommand, entryCommand, firstDiceCommand, linkCommand, secondDiceCommand, ballotHalfCommand, listHalfCommand, voteCommand, fullCommand, parametersOf}
 use Rattle.protocol.specs.Drawing.{hexDigit, hexDigits, drawFrom}
 use Rattle.protocol.specs.Rules.{fairDie, fairDice, rightShape, agrees, fault}
 use Rattle.protocol.specs.Judging.{found, ballotFaults}
 use Rattle.protocol.specs.Inputs.{Slices, given, Inputs, ballotNumbers, listNumbers, listPermutations, ballotKeys, entryKeys, inputsOf, dueLengths, idsRise, allPermutations, refusal}
-use Rattle.protocol.specs.Results.{fresh, distinctVotes, voteCounts, receiptRefusal, tallyRefusal, tooLongWord, tallyLine, tallyLines, pageOf, drawRefusal}
+use Rattle.protocol.specs.Results.{fresh, distinctVotes, voteCounts, receiptRefusal, tallyRefusal, tooLongWord, tallyLine, tallyLines, electionLine, acceptedLines, pageOf, drawRefusal}
 
 pub record Row : Type 0 where
   pub computed : List ℕ
@@ -53,7 +54,7 @@ starred =
     -- "m = 2: mask 3 stands; mask 11 (three ones) and mask 17 (bit 4) are 7."
     ∷ record { computed = map (λ mask. rule 7 (rightShape 2 mask) kept) (3 ∷ 11 ∷ 17 ∷ []); expected = 0 ∷ 7 ∷ 7 ∷ [] }
     -- "n = 1, m = 1: 1,125 bytes; n = 8, m = 2: 14,347."
-    ∷ record { computed = recordLength (parameters 2 1 1) ∷ recordLength (parameters 2 8 2) ∷ []; expected = 1125 ∷ 14347 ∷ [] }
+    ∷ record { computed = recordLength (parameters Unnumbered 2 1 1) ∷ recordLength (parameters Unnumbered 2 8 2) ∷ []; expected = 1125 ∷ 14347 ∷ [] }
     -- "M = 100: ballot halves sum 36 and 88, list 90 and 34: t = 46 fits both sides."
     ∷ record { computed = oneIf (agrees 100 0 36 90 46) ∷ oneIf (agrees 100 1 88 34 46) ∷ []; expected = 1 ∷ 1 ∷ [] }
     -- "5, 2, 5 permutes 2, 5, 5; 2, 2, 5 does not."
@@ -79,15 +80,20 @@ own =
     ∷ record { computed = drawFrom (λ i. i) 0 4 2 ∷ drawFrom (λ i. 3) 0 4 2 ∷ []; expected = 5 ∷ 10 ∷ [] }
     -- limits: n = 1,025 and 4,096 stand, 4,097 does not; M = 1 does not; m = 12 stands, 13 does not
     ∷ record {
-      computed = oneIf (inLimits (parameters 2 1025 12)) ∷ oneIf (inLimits (parameters 2 4096 12)) ∷ oneIf (inLimits (parameters 2 4097 12)) ∷ oneIf (inLimits (parameters 1 1 1)) ∷ oneIf (inLimits (parameters 2 1 13)) ∷ oneIf (inLimits (parameters 2 0 1)) ∷ oneIf (inLimits (parameters 2 1 0)) ∷ [];
+      computed = oneIf (inLimits (parameters Unnumbered 2 1025 12)) ∷ oneIf (inLimits (parameters Unnumbered 2 4096 12)) ∷ oneIf (inLimits (parameters Unnumbered 2 4097 12)) ∷ oneIf (inLimits (parameters Unnumbered 1 1 1)) ∷ oneIf (inLimits (parameters Unnumbered 2 1 13)) ∷ oneIf (inLimits (parameters Unnumbered 2 0 1)) ∷ oneIf (inLimits (parameters Unnumbered 2 1 0)) ∷ [];
       expected = 1 ∷ 1 ∷ 0 ∷ 0 ∷ 0 ∷ 0 ∷ 0 ∷ [];
     }
-    -- "so the longest record has 37,371,979 bytes"
-    ∷ record { computed = recordLength (parameters 2 4096 12) ∷ []; expected = 37371979 ∷ [] }
+    -- "so the longest record has 37,371,979 bytes"; with an election's number "4 bytes longer"
+    ∷ record { computed = recordLength (parameters Unnumbered 2 4096 12) ∷ recordLength (parameters (Numbered 7) 2 4096 12) ∷ []; expected = 37371979 ∷ 37371983 ∷ [] }
     -- a key, then a number, its most significant byte first
     ∷ record { computed = opening (9 ∷ 8 ∷ []) 16909060; expected = 9 ∷ 8 ∷ 1 ∷ 2 ∷ 3 ∷ 4 ∷ [] }
     -- operands in their order and widths
-    ∷ record { computed = firstCommand (parameters 16909060 258 3); expected = 1 ∷ 1 ∷ 2 ∷ 3 ∷ 4 ∷ 1 ∷ 2 ∷ 3 ∷ [] }
+    ∷ record { computed = firstCommand (parameters Unnumbered 16909060 258 3); expected = 1 ∷ 1 ∷ 2 ∷ 3 ∷ 4 ∷ 1 ∷ 2 ∷ 3 ∷ [] }
+    -- "election number 4, any value, then M, n, m as in 01"
+    ∷ record {
+      computed = firstCommand (parameters (Numbered 84281096) 16909060 258 3);
+      expected = 12 ∷ 5 ∷ 6 ∷ 7 ∷ 8 ∷ 1 ∷ 2 ∷ 3 ∷ 4 ∷ 1 ∷ 2 ∷ 3 ∷ [];
+    }
     ∷ record { computed = ballotCommand 16909060 (λ q. q ∷ []); expected = 2 ∷ 1 ∷ 2 ∷ 3 ∷ 4 ∷ 0 ∷ 1 ∷ 2 ∷ 3 ∷ 4 ∷ 5 ∷ [] }
     ∷ record { computed = entryCommand 7 258 (λ q. q ∷ []); expected = 3 ∷ 7 ∷ 1 ∷ 2 ∷ 0 ∷ 1 ∷ 2 ∷ 3 ∷ 4 ∷ 5 ∷ [] }
     ∷ record { computed = firstDiceCommand (49 ∷ 54 ∷ []) 16909060; expected = 4 ∷ 49 ∷ 54 ∷ 1 ∷ 2 ∷ 3 ∷ 4 ∷ [] }
@@ -105,10 +111,15 @@ own =
     ∷ record { computed = hexDigits (16 ∷ 255 ∷ 154 ∷ []); expected = 49 ∷ 48 ∷ 102 ∷ 102 ∷ 57 ∷ 97 ∷ [] }
     -- the page of a record announcing 2, 5, 5, and one refused by rule 17, and what an input that is too long gives
     ∷ record {
-      computed = pageOf 0 (2 ∷ 5 ∷ 5 ∷ []);
+      computed = pageOf 0 Unnumbered (2 ∷ 5 ∷ 5 ∷ []);
       expected = 65 ∷ 67 ∷ 67 ∷ 69 ∷ 80 ∷ 84 ∷ 69 ∷ 68 ∷ 10 ∷ 50 ∷ 32 ∷ 49 ∷ 10 ∷ 53 ∷ 32 ∷ 50 ∷ 10 ∷ [];
     }
-    ∷ record { computed = pageOf 17 []; expected = 82 ∷ 69 ∷ 70 ∷ 85 ∷ 83 ∷ 69 ∷ 68 ∷ 32 ∷ 49 ∷ 55 ∷ 10 ∷ [] }
+    -- "On the line after `ACCEPTED` .. `ELECTION`, a space and the number in decimal"
+    ∷ record {
+      computed = pageOf 0 (Numbered 120) (2 ∷ 5 ∷ 5 ∷ []);
+      expected = 65 ∷ 67 ∷ 67 ∷ 69 ∷ 80 ∷ 84 ∷ 69 ∷ 68 ∷ 10 ∷ 69 ∷ 76 ∷ 69 ∷ 67 ∷ 84 ∷ 73 ∷ 79 ∷ 78 ∷ 32 ∷ 49 ∷ 50 ∷ 48 ∷ 10 ∷ 50 ∷ 32 ∷ 49 ∷ 10 ∷ 53 ∷ 32 ∷ 50 ∷ 10 ∷ [];
+    }
+    ∷ record { computed = pageOf 17 (Numbered 7) []; expected = 82 ∷ 69 ∷ 70 ∷ 85 ∷ 83 ∷ 69 ∷ 68 ∷ 32 ∷ 49 ∷ 55 ∷ 10 ∷ [] }
     ∷ record { computed = tooLongWord; expected = 84 ∷ 79 ∷ 79 ∷ 32 ∷ 76 ∷ 79 ∷ 78 ∷ 71 ∷ [] }
     ∷ []
 
@@ -117,7 +128,7 @@ indices : ℕ → List ℕ
 indices n = tabulate (λ i. i) n
 
 lent : List ℕ → Inputs
-lent keys = inputsOf (given (parameters 100 2 1) (11 ∷ 12 ∷ []) (21 ∷ 22 ∷ []) (indices 46) (indices 12) keys)
+lent keys = inputsOf (given (parameters Unnumbered 100 2 1) (11 ∷ 12 ∷ []) (21 ∷ 22 ∷ []) (indices 46) (indices 12) keys)
 
 -- keys of 0, with 1, 2, 3 at a place
 keysWith : ℕ → List ℕ
@@ -149,7 +160,7 @@ placed =
 
 -- the slices of an election of two ballots and two lists, M = 100
 slices : List ℕ → List ℕ → List ℕ → Slices
-slices ids votes permutation = given (parameters 100 2 1) ids votes (replicate 46 99) (permutation ++ (0 ∷ 1 ∷ 1 ∷ 0 ∷ 0 ∷ 1 ∷ 1 ∷ 0 ∷ 0 ∷ 1 ∷ [])) (replicate 1152 0)
+slices ids votes permutation = given (parameters Unnumbered 100 2 1) ids votes (replicate 46 99) (permutation ++ (0 ∷ 1 ∷ 1 ∷ 0 ∷ 0 ∷ 1 ∷ 1 ∷ 0 ∷ 0 ∷ 1 ∷ [])) (replicate 1152 0)
 
 refusals : List Row
 refusals =
@@ -212,8 +223,8 @@ refusals =
     }
     -- the draw of a mask: parameters, lengths, dice
     ∷ record {
-      computed = drawRefusal (parameters 2 1 1) (replicate 30 54) 597 ∷ drawRefusal (parameters 1 1 1) [] 0 ∷ drawRefusal (parameters 2 1 1) (replicate 29 55) 597
-          ∷ drawRefusal (parameters 2 1 1) (replicate 30 55) 596 ∷ drawRefusal (parameters 2 1 1) (replicate 30 55) 597 ∷ [];
+      computed = drawRefusal (parameters Unnumbered 2 1 1) (replicate 30 54) 597 ∷ drawRefusal (parameters Unnumbered 1 1 1) [] 0 ∷ drawRefusal (parameters Unnumbered 2 1 1) (replicate 29 55) 597
+          ∷ drawRefusal (parameters Unnumbered 2 1 1) (replicate 30 55) 596 ∷ drawRefusal (parameters Unnumbered 2 1 1) (replicate 30 55) 597 ∷ [];
       expected = 0 ∷ 3 ∷ 18 ∷ 18 ∷ 6 ∷ [];
     }
     ∷ []
@@ -222,5 +233,5 @@ pub samples : List Row
 samples = starred ++ (own ++ (placed ++ refusals))
 
 pub samples-hold : map (λ (r : Row). r .computed) samples ≡ map (λ (r : Row). r .expected) samples
-unfolding samples starred own indices lent keysWith placed slices refusals six through ones equal differ below atMost _and_ _or_ every choose rule number bytes tabulate plus minus permutes inLimits modulusInLimits ballotsInLimits listsInLimits opening digits decimal share slot ballotCommand row thirdOffset source rowServer thirdOffsets secondHalves atFirstDice atSecondDice atBallotHalf atVote atEnd firstCommand entryCommand firstDiceCommand linkCommand ballotHalfCommand listHalfCommand voteCommand hexDigit hexDigits drawFrom rightShape agrees fresh distinctVotes voteCounts tallyLine tallyLines pageOf secondDiceCommand fullCommand receipt ballotNumbers listNumbers listPermutations ballotKeys entryKeys inputsOf tabletRefusal rowRefusal pairRefusal allBelow isPermutation receiptRefusal numberOf _then_ first located found ballotFaults fault parametersOf tallyRefusal refusal dueLengths idsRise allPermutations drawRefusal fairDice fairDie
+unfolding samples starred firstCode numberWidth formOf formBytes electionLine acceptedLines own indices lent keysWith placed slices refusals six through ones equal differ below atMost _and_ _or_ every choose rule number bytes tabulate plus minus permutes inLimits modulusInLimits ballotsInLimits listsInLimits opening digits decimal share slot ballotCommand row thirdOffset source rowServer thirdOffsets secondHalves atFirstDice atSecondDice atBallotHalf atVote atEnd firstCommand entryCommand firstDiceCommand linkCommand ballotHalfCommand listHalfCommand voteCommand hexDigit hexDigits drawFrom rightShape agrees fresh distinctVotes voteCounts tallyLine tallyLines pageOf secondDiceCommand fullCommand receipt ballotNumbers listNumbers listPermutations ballotKeys entryKeys inputsOf tabletRefusal rowRefusal pairRefusal allBelow isPermutation receiptRefusal numberOf _then_ first located found ballotFaults fault parametersOf tallyRefusal refusal dueLengths idsRise allPermutations drawRefusal fairDice fairDie
 samples-hold = refl

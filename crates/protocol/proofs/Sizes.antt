@@ -1,6 +1,6 @@
--- There is an election of every size within the limits: for all M, n and m in them there are inputs that no call refuses, and so a record
+-- There is an election of either form and of every size within the limits: for all M, n and m in them there are inputs that no call refuses, and so a record
 -- that drawn judging accepts, as long as these parameters say, and three records as soundness supposes them. With 4,096 ballots and 24 lists
--- it has 37,371,979 bytes.
+-- it has 37,371,979 bytes, or 4 more with an election's number.
 use mathlib.Core.Path.{_≡_, refl, sym, ap, _∙_}
 use mathlib.Core.Bool.{Bool, true, false}
 use mathlib.Core.List.{List}
@@ -14,15 +14,17 @@ use Rattle.laws.specs.Faults.{rules}
 use Rattle.laws.specs.Chunks.{get-piece}
 use Rattle.laws.specs.Permutations.{Perm}
 use Rattle.laws.specs.Tables.{tabulate, length-tabulate, get-tabulate}
+use Rattle.protocol.specs.declared.Form.{Form}
 use Rattle.protocol.specs.declared.Parameters.{Parameters}
 use Rattle.protocol.specs.Answers.{accepted}
-use Rattle.protocol.specs.Terms.{parameters, item, mostBallots, inLimits, modulusInLimits, ballotsInLimits, listsInLimits}
-use Rattle.protocol.specs.Layout.{lists, recordLength, partOneLength, partTwoLength, partThreeLength}
+use Rattle.protocol.specs.Terms.{parameters, electionNumber, item, mostBallots, inLimits, modulusInLimits, ballotsInLimits, listsInLimits}
+use Rattle.protocol.specs.Layout.{numberWidth, lists, recordLength, partOneLength, partTwoLength, partThreeLength}
 use Rattle.protocol.specs.Record.{parametersOf}
 use Rattle.protocol.specs.Rules.{fairDie, fairDice}
 use Rattle.protocol.specs.Judging.{judged}
 use Rattle.protocol.specs.Inputs.{Slices, inputsOf, listPermutations, dueLengths, idsRise, allPermutations, refusal, partOneRefusal}
 use Rattle.protocol.specs.Election.{drawn, maskInShape, sidesDue, sidesBinary, electionRefusal, electionRecord}
+use Rattle.protocol.proofs.Goodness.{FourBytes}
 use Rattle.protocol.proofs.Unrefused.{tests}
 use Rattle.protocol.specs.Demand3.{Triple}
 use Rattle.protocol.proofs.Lengths.{record-length}
@@ -77,7 +79,7 @@ module _ (p : Parameters) where
   abbrev pub plainRecord : List ℕ
   plainRecord = electionRecord (plain p) drawn allOnes drawn allOnes
 
-  module _ (h : inLimits p ≡ true) where
+  module _ (h : inLimits p ≡ true) (numbered : electionNumber (p .form) < 4294967296) where
     modulus-low : 2 ≤ p .modulus
     unfolding inLimits modulusInLimits ballotsInLimits listsInLimits
     modulus-low = (simp rules at h) .0 .0
@@ -114,15 +116,18 @@ module _ (p : Parameters) where
     pub ids-small : Below 4294967296 (plain p .ids)
     ids-small i l = rw (get-tabulate (λ j. j) (p .ballots) i (omega (arith, length-tabulate (λ j. j) (p .ballots)))) (omega (arith, length-tabulate (λ j. j) (p .ballots), ballots-high))
 
+    pub fits : FourBytes (plain p)
+    fits = record { ids = ids-small; election = numbered }
+
     pub none-refuses : electionRefusal (plain p) drawn allOnes drawn allOnes (partOneLength p) (partTwoLength p) (partThreeLength p) (recordLength p) ≡ 0
     unfolding electionRefusal maskInShape sidesDue sidesBinary
     none-refuses = unrefused (simp rules (refl, (refl, (refl, (refl, (refl, (refl, refl))))))) (simp rules (all-fair, all-fair)) refl refl
 
     pub accepted-drawn : judged true plainRecord ≡ accepted
-    accepted-drawn = complete-drawn (plain p) allOnes allOnes ids-small (none-refused (plain p) drawn allOnes drawn allOnes _ _ _ _ none-refuses)
+    accepted-drawn = complete-drawn (plain p) allOnes allOnes fits (none-refused (plain p) drawn allOnes drawn allOnes _ _ _ _ none-refuses)
 
     pub parameters-are : parametersOf plainRecord ≡ p
-    parameters-are = complete-parameters (plain p) drawn allOnes drawn allOnes ids-small (none-refused (plain p) drawn allOnes drawn allOnes _ _ _ _ none-refuses)
+    parameters-are = complete-parameters (plain p) drawn allOnes drawn allOnes fits (none-refused (plain p) drawn allOnes drawn allOnes _ _ _ _ none-refuses)
 
     pub long : length plainRecord ≡ recordLength p
     long = accepts-drawn-iff plainRecord .0 accepted-drawn .0 .laid .long ∙ rw parameters-are (sym (record-length p))
@@ -134,15 +139,16 @@ module _ (p : Parameters) where
     part-one = unrefused (is-equal refl) refl refl refl
 
     abbrev pub plainSample : ℕ → ℕ → List ℕ
-    plainSample = sample (plain p) (partOneLength p) ids-small part-one
+    plainSample = sample (plain p) (partOneLength p) fits part-one
 
     pub three-records : Triple (plainSample (lowMask (p .compared)) 0) (plainSample (lowMask (p .compared)) 1) (plainSample (highMask (p .compared)) 0)
-    three-records = triple (plain p) (partOneLength p) ids-small part-one
+    three-records = triple (plain p) (partOneLength p) fits part-one
 
--- as many ballots and lists as there may be, with any modulus
-pub most-stands : (M : ℕ) → 2 ≤ M → M ≤ 4294967295 → (r : List ℕ) × (judged true r ≡ accepted) × (parametersOf r ≡ parameters M 4096 12) × (length r ≡ 37371979)
+-- as many ballots and lists as there may be, in either form and with any modulus
+pub most-stands : (form : Form) (M : ℕ) → electionNumber form < 4294967296 → 2 ≤ M → M ≤ 4294967295
+    → (r : List ℕ) × (judged true r ≡ accepted) × (parametersOf r ≡ parameters form M 4096 12) × (length r ≡ 37371979 + numberWidth form)
 unfolding inLimits modulusInLimits ballotsInLimits listsInLimits
-most-stands M low high =
-    let p = parameters M 4096 12 in
+most-stands form M numbered low high =
+    let p = parameters form M 4096 12 in
     let h : inLimits p ≡ true = simp rules ((low, high), ((omega arith, omega arith), (omega arith, omega arith))) in
-    (plainRecord p, accepted-drawn p h, parameters-are p h, long p h ∙ record-length p)
+    (plainRecord p, accepted-drawn p h numbered, parameters-are p h numbered, omega (arith, long p h numbered, record-length p))

@@ -19,7 +19,7 @@ use Rattle.protocol.specs.Record.{Board, Comparison, Disclosure, boardOf
 use Rattle.protocol.specs.Stands.{Laid, Valid, Stands}
 use Rattle.protocol.specs.Results.{announcedVotes}
 use Rattle.protocol.proofs.Fitting.{Fits}
-use Rattle.protocol.proofs.Operands.{reads-byte, reads-number, entry-list, entry-position, link-list, link-ballot, ballot-half-ballot, list-half-list, list-half-position, vote-index, full-list, full-position}
+use Rattle.protocol.proofs.Operands.{reads-first, reads-byte, reads-number, entry-list, entry-position, link-list, link-ballot, ballot-half-ballot, list-half-list, list-half-position, vote-index, full-list, full-position}
 use Rattle.protocol.proofs.Locating.{length-part-one, length-two-parts, length-encoding, at-first, at-ballot, at-entry, at-first-dice, at-link, at-second-dice, at-ballot-half, at-list-half, at-vote, at-full, at-end}
 use Rattle.protocol.proofs.Reading.{read-parameters, read-id, read-ballot-commitment, read-entry-commitment, read-first-dice, read-mask, read-link-place, read-position, read-shift, read-second-dice, read-side, read-ballot-opening, read-list-half-place, read-list-opening, read-vote, read-full-place, read-full-opening}
 
@@ -89,11 +89,11 @@ module _ (b : Board) (k : Comparison) (d : Disclosure) (f : Fits b k d) where
       (reads-byte 10 h, (reads-number 1 l h (full-list l i o) (list-small l ll), reads-number 2 i h (full-position l i o) (index-small i li)))
 
   laid : Laid (b .parameters) (encoding b k d)
-  unfolding firstCommand ballotCommand firstDiceCommand secondDiceCommand
+  unfolding ballotCommand firstDiceCommand secondDiceCommand
   laid =
       record {
         long = length-encoding b k d f;
-        first = reads-byte 1 (at-first b k d f);
+        first = reads-first (b .parameters) (at-first b k d f);
         ballots = λ j lj. reads-byte 2 (at-ballot b k d f j lj);
         entries = entry-laid;
         first-dice = reads-byte 4 (at-first-dice b k d f);

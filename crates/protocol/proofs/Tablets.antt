@@ -13,13 +13,14 @@ use Rattle.laws.specs.Chunks.{piece, length-piece, chunks-same}
 use Rattle.laws.specs.At.{At, at-whole}
 use Rattle.sha3.specs.Sha3.{sha3-224}
 use Rattle.sha3.proofs.Digest.{sha3-224-length}
+use Rattle.protocol.specs.declared.Form.{Form}
 use Rattle.protocol.specs.declared.Place.the-variants.{InBallot}
 use Rattle.protocol.specs.Terms.{modulusInLimits, commitment, opening}
 use Rattle.protocol.specs.Tablet.{tabletParameters, oneOfThree, share, slot, ballotCommand, tabletCommand, receipt, tabletRefusal}
 use Rattle.protocol.specs.Layout.{atBallot}
 use Rattle.protocol.specs.Inputs.{Slices, ballotKeys, inputsOf}
 use Rattle.protocol.specs.Servers.{ballotRow, ballotNumber, ballotOpening, postedBoard, firstPart}
-use Rattle.protocol.proofs.Goodness.{Good}
+use Rattle.protocol.proofs.Goodness.{FourBytes, Good}
 use Rattle.protocol.proofs.Honesty.{length-commitment}
 use Rattle.protocol.proofs.Unrefused.{Unrefused, good-inputs}
 use Rattle.protocol.proofs.Widths.{length-ballot}
@@ -29,7 +30,7 @@ use Rattle.protocol.proofs.Locating.{ballot-in}
 abbrev pub tablet : Slices → ℕ → List ℕ
 tablet s j =
     let i = inputsOf s in
-    tabletCommand (i .parameters .modulus) (i .id j) (i .vote j) (i .x j) (i .y j) (i .firstHalf j 0) (i .firstHalf j 1) (i .firstHalf j 2) (ballotKeys s j)
+    tabletCommand (i .parameters .form) (i .parameters .modulus) (i .id j) (i .vote j) (i .x j) (i .y j) (i .firstHalf j 0) (i .firstHalf j 1) (i .firstHalf j 2) (ballotKeys s j)
 
 -- three values as one of three
 one-of-three : (f : ℕ → ℕ) (k : ℕ) → k < 3 → oneOfThree k (f 0) (f 1) (f 2) ≡ f k
@@ -43,13 +44,13 @@ unfolding slot
 slot-same M value f g q e = ap (λ (u : ℕ). choose (q % 2) u (minus M (value (q / 2)) u)) e
 
 -- "in the order u1, v1, u2, v2, u3, v3", with first halves f
-tablet-command : (M id w x y : ℕ) (f : ℕ → ℕ) (keys : List ℕ)
-    → tabletCommand M id w x y (f 0) (f 1) (f 2) keys
-    ≡ ballotCommand id (λ q. commitment (tabletParameters M) (InBallot id q) (opening (piece keys (32 * q) 32) (slot M (share M w x y) f q)))
+tablet-command : (form : Form) (M id w x y : ℕ) (f : ℕ → ℕ) (keys : List ℕ)
+    → tabletCommand form M id w x y (f 0) (f 1) (f 2) keys
+    ≡ ballotCommand id (λ q. commitment (tabletParameters form M) (InBallot id q) (opening (piece keys (32 * q) 32) (slot M (share M w x y) f q)))
 unfolding tabletCommand ballotCommand
-tablet-command M id w x y f keys =
+tablet-command form M id w x y f keys =
     ap (λ (l : List ℕ). (2 ∷ bytes 4 id) ++ l) (chunks-same _ _ 6 (λ q lq.
-    ap (λ (v : ℕ). commitment (tabletParameters M) (InBallot id q) (opening (piece keys (32 * q) 32) v))
+    ap (λ (v : ℕ). commitment (tabletParameters form M) (InBallot id q) (opening (piece keys (32 * q) 32) v))
     (slot-same M (share M w x y) (λ k. oneOfThree k (f 0) (f 1) (f 2)) f q (one-of-three f (q / 2) (omega arith)))))
 
 module _ (s : Slices) where
@@ -58,7 +59,7 @@ module _ (s : Slices) where
   unfolding commitment postedBoard ballotOpening ballotNumber ballotRow inputsOf
   tablet-is j =
       let i = inputsOf s in
-      tablet-command (i .parameters .modulus) (i .id j) (i .vote j) (i .x j) (i .y j) (i .firstHalf j) (ballotKeys s j)
+      tablet-command (i .parameters .form) (i .parameters .modulus) (i .id j) (i .vote j) (i .x j) (i .y j) (i .firstHalf j) (ballotKeys s j)
 
   pub length-tablet : (j : ℕ) → length (tablet s j) ≡ 197
   unfolding postedBoard
@@ -78,7 +79,7 @@ unfolding receipt
 length-receipt id command = omega (arith, length-append (bytes 4 id) (sha3-224 command), length-bytes 4 id, sha3-224-length command)
 
 -- a tablet takes all inputs that part one takes
-module _ (s : Slices) {lengths fair shape binary : Bool} (u : Unrefused s lengths fair shape binary) (ids : Below 4294967296 (s .ids)) where
+module _ (s : Slices) {lengths fair shape binary : Bool} (u : Unrefused s lengths fair shape binary) (fit : FourBytes s) where
   keys-long : (j : ℕ) → j < inputsOf s .parameters .ballots → length (ballotKeys s j) ≡ 192
   unfolding ballotKeys inputsOf
   keys-long j lj = length-piece (s .keys) (192 * j) 192 (rw (u .keys-long) (omega arith))
@@ -90,7 +91,7 @@ module _ (s : Slices) {lengths fair shape binary : Bool} (u : Unrefused s length
       ≡ 0
   unfolding tabletRefusal modulusInLimits
   tablet-unrefused j lj =
-      let g : Good (inputsOf s) = good-inputs s u ids in
+      let g : Good (inputsOf s) = good-inputs s u fit in
       simp rules (
         (g .modulus-low, g .modulus-high),
         (

@@ -17,7 +17,7 @@ use Rattle.protocol.specs.Terms.{item, mostBallots, allBelow, modulusInL
 use Rattle.protocol.specs.Columns.{isPermutation}
 use Rattle.protocol.specs.Rules.{fairDie, fairDice, rightShape}
 use Rattle.protocol.specs.Inputs.{Slices, ballotNumbers, listNumbers, ballotKeys, entryKeys, inputsOf, dueLengths, idsRise, allPermutations, refusal, binarySides}
-use Rattle.protocol.proofs.Goodness.{Good}
+use Rattle.protocol.proofs.Goodness.{FourBytes, Good}
 use Rattle.protocol.proofs.Honesty.{Chosen}
 
 -- ---- each test as a statement
@@ -132,16 +132,17 @@ module _ (s : Slices) {lengths fair shape binary : Bool} (u : Unrefused s length
       length-piece (s .keys) (192 * s .parameters .ballots + 192 * (l * s .parameters .ballots + i)) 192 (rw (u .keys-long) (omega arith)) in
       length-piece (entryKeys s l i) (32 * q) 32 (rw e (omega arith))
 
-  pub good-inputs : Below 4294967296 (s .ids) → Good (inputsOf s)
+  pub good-inputs : FourBytes s → Good (inputsOf s)
   unfolding inputsOf
   good-inputs fit = record {
+    election-fits = fit .election;
     modulus-low = u .modulus-low;
     modulus-high = u .modulus-high;
     ballots-low = u .ballots-low;
     ballots-high = u .ballots-high;
     compared-low = u .compared-low;
     compared-high = u .compared-high;
-    ids-fit = λ j lj. fit j (rw (u .ids-long) lj);
+    ids-fit = λ j lj. fit .ids j (rw (u .ids-long) lj);
     ids-rise = u .ids-rise;
     votes-below = λ j lj. u .votes-below j (rw (u .votes-long) lj);
     x-below = λ j lj. ballot-number j 0 lj (omega arith);
@@ -154,7 +155,7 @@ module _ (s : Slices) {lengths fair shape binary : Bool} (u : Unrefused s length
     entry-keys = entry-key;
   }
 
-pub good : (s : Slices) (lengths fair shape binary : Bool) → Below 4294967296 (s .ids) → refusal s lengths fair shape binary ≡ 0 → Good (inputsOf s)
+pub good : (s : Slices) (lengths fair shape binary : Bool) → FourBytes s → refusal s lengths fair shape binary ≡ 0 → Good (inputsOf s)
 good s lengths fair shape binary fit e = good-inputs s (unrefused s lengths fair shape binary e) fit
 
 -- dice, mask and sides that pass their tests

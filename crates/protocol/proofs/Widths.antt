@@ -1,5 +1,5 @@
 -- The length of each command, as written and by the layout.
-use mathlib.Core.Path.{_≡_}
+use mathlib.Core.Path.{_≡_, refl, ap}
 use mathlib.Core.List.{List, _∷_, _++_}
 use Prim.Native.Nat.{ℕ, suc, _+_, _*_, _<_}
 use native.Mathlib.Omega.{arith}
@@ -7,21 +7,29 @@ use lib.ListN.{length, length-append}
 use Rattle.laws.specs.Bytes.{bytes, length-bytes}
 use Rattle.laws.specs.Chunks.{chunks, chunks-even}
 use Rattle.laws.specs.Masks.{setBefore}
+use Rattle.protocol.specs.declared.Form.{Form}
+use Rattle.protocol.specs.declared.Form.the-variants.{Unnumbered, Numbered}
 use Rattle.protocol.specs.declared.Parameters.{Parameters}
 use Rattle.protocol.specs.declared.Due.{Due}
 use Rattle.protocol.specs.declared.Due.the-variants.{First, Ballot, Entry, FirstDice, Link, SecondDice, BallotHalf, ListHalf, Vote, FullOpening, End}
 use Rattle.protocol.specs.Tablet.{ballotCommand}
-use Rattle.protocol.specs.Layout.{width, atBallot, atEntry, atLink, atBallotHalf, atListHalf, atVote, atFullOpening, recordLength}
-use Rattle.protocol.specs.Record.{maskOf, linkPlace, listHalfPlace, fullPlace, firstCommand, entryCommand, firstDiceCommand, linkCommand, secondDiceCommand, ballotHalfCommand, listHalfCommand, voteCommand, fullCommand}
+use Rattle.protocol.specs.Layout.{numberWidth, firstWidth, width, atBallot, atEntry, atLink, atBallotHalf, atListHalf, atVote, atFullOpening, recordLength}
+use Rattle.protocol.specs.Record.{maskOf, linkPlace, listHalfPlace, fullPlace, formBytes, firstCommand, entryCommand, firstDiceCommand, linkCommand, secondDiceCommand, ballotHalfCommand, listHalfCommand, voteCommand, fullCommand}
 use Rattle.protocol.specs.Rules.{placeOf}
 
 -- a head of h bytes and n pieces of w
 joined : (head : List ℕ) (f : ℕ → List ℕ) (h w n : ℕ) → length head ≡ h → ((j : ℕ) → j < n → length (f j) ≡ w) → length (head ++ chunks f n) ≡ h + n * w
 joined head f h w n e wide = omega (arith, length-append head (chunks f n), chunks-even f w n wide)
 
-pub length-first : (p : Parameters) → length (firstCommand p) ≡ 8
+-- the first command's byte, and the election's number
+pub length-form : (form : Form) → length (formBytes form) ≡ 1 + numberWidth form
+unfolding formBytes numberWidth
+length-form Unnumbered = refl
+length-form (Numbered election) = ap (λ (k : ℕ). suc k) (length-bytes 4 election)
+
+pub length-first : (p : Parameters) → length (firstCommand p) ≡ firstWidth p
 unfolding firstCommand
-length-first p = simp (length-append, length-bytes)
+length-first p = simp (length-append, length-bytes, length-form) (omega arith)
 
 pub length-ballot : (id : ℕ) (c : ℕ → List ℕ) → ((q : ℕ) → q < 6 → length (c q) ≡ 32) → length (ballotCommand id c) ≡ 197
 unfolding ballotCommand

@@ -8,12 +8,13 @@ use Rattle.laws.specs.declared.Found.the-variants.{Nothing}
 use Rattle.laws.specs.Tests.{atMost, choose}
 use Rattle.laws.specs.Faults.{rule, kept, located, _then_, first, numberOf}
 use Rattle.laws.specs.Masks.{bit}
+use Rattle.protocol.specs.declared.Form.{Form}
 use Rattle.protocol.specs.declared.Parameters.{Parameters}
 use Rattle.protocol.specs.declared.Due.{Due}
 use Rattle.protocol.specs.declared.Due.the-variants.{First, Ballot, Entry, FirstDice, Link, SecondDice, BallotHalf, ListHalf, Vote, FullOpening, End}
 use Rattle.protocol.specs.Answers.{Answer, answerOf}
 use Rattle.protocol.specs.Layout.{lists, recordLength}
-use Rattle.protocol.specs.Record.{parametersOf, maskOf}
+use Rattle.protocol.specs.Record.{parametersIn, parametersOf, maskOf}
 use Rattle.protocol.specs.Rules.{placeOf, firstRulesUpTo, inCommand, fault}
 
 module _ (p : Parameters) (r : List ℕ) where
@@ -93,3 +94,14 @@ firstFaultUpTo most drawn r = firstCommandUpTo most r then laterFaults drawn (pa
 
 unfoldable pub judgedUpTo : ℕ → Bool → List ℕ → Answer
 judgedUpTo most drawn r = answerOf (numberOf (firstFaultUpTo most drawn r)) []
+
+-- ---- one form alone: the judge of document 01 knows no first command but 01
+
+-- the first fault of a record, and its verdict, where the first command is to have this form
+unfoldable pub firstFaultIn : Form → Bool → List ℕ → Found
+firstFaultIn form drawn r =
+    let p = parametersIn form r in
+    found drawn p r First then laterFaults drawn p r
+
+unfoldable pub judgedIn : Form → Bool → List ℕ → Answer
+judgedIn form drawn r = answerOf (numberOf (firstFaultIn form drawn r)) []

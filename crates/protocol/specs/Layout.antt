@@ -1,17 +1,29 @@
 -- Document 01, "The record": each command's byte, width and place. Places follow from the parameters and, for the lists that are
 -- compared or opened, from how many such lists come before.
 use Prim.Native.Nat.{ℕ, _+_, _*_}
+use Rattle.protocol.specs.declared.Form.{Form}
+use Rattle.protocol.specs.declared.Form.the-variants.{Unnumbered, Numbered}
 use Rattle.protocol.specs.declared.Parameters.{Parameters}
 use Rattle.protocol.specs.declared.Due.{Due}
 use Rattle.protocol.specs.declared.Due.the-variants.{First, Ballot, Entry, FirstDice, Link, SecondDice, BallotHalf, ListHalf, Vote, FullOpening, End}
 
--- "01 parameters: M 4, n 2, m 1.": the first command's width
+-- "01 parameters", or by document 02, item 4: "Command 0C (hexadecimal) may stand first in place of 01"
+unfoldable pub firstCode : Form → ℕ
+firstCode Unnumbered = 0x01
+firstCode (Numbered election) = 0x0C
+
+-- ".. election number 4, any value, then M, n, m as in 01": how many bytes the number takes, by which such a record is longer
+unfoldable pub numberWidth : Form → ℕ
+numberWidth Unnumbered = 0
+numberWidth (Numbered election) = 4
+
+-- "01 parameters: M 4, n 2, m 1.", behind the number where there is one: the first command's width
 abbrev pub firstWidth : Parameters → ℕ
-firstWidth p = 8
+firstWidth p = 8 + numberWidth (p .form)
 
 -- "A command is one byte with operands of fixed widths."
 abbrev pub code : Parameters → Due → ℕ
-code p First = 0x01
+code p First = firstCode (p .form)
 code p (Ballot j) = 0x02
 code p (Entry l i) = 0x03
 code p FirstDice = 0x04

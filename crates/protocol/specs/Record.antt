@@ -2,19 +2,31 @@
 -- own, in three pieces as the servers write it, and the bytes that say it.
 use mathlib.Core.List.{List, [], _∷_, _++_}
 use Prim.Native.Nat.{ℕ, _+_, _*_}
-use Rattle.laws.specs.Tests.{choose}
+use Rattle.laws.specs.Tests.{equal, choose, pick}
 use Rattle.laws.specs.Bytes.{number, bytes}
 use Rattle.laws.specs.Masks.{bit, setBefore, clearBefore}
 use Rattle.laws.specs.Chunks.{piece, chunks}
+use Rattle.protocol.specs.declared.Form.{Form}
+use Rattle.protocol.specs.declared.Form.the-variants.{Unnumbered, Numbered}
 use Rattle.protocol.specs.declared.Parameters.{Parameters}
 use Rattle.protocol.specs.Tablet.{ballotCommand}
-use Rattle.protocol.specs.Layout.{lists, atBallot, atEntry, atFirstDice, atLink, atSecondDice, atBallotHalf, atListHalf, atVote, atFullOpening}
+use Rattle.protocol.specs.Terms.{item}
+use Rattle.protocol.specs.Layout.{numberWidth, lists, atBallot, atEntry, atFirstDice, atLink, atSecondDice, atBallotHalf, atListHalf, atVote, atFullOpening}
 
 -- ---- read from a record
 
--- "01 parameters: M 4, n 2, m 1."
+-- the first command's form: 0C with the election's number, and whatever else stands there is to be 01
+unfoldable pub formOf : List ℕ → Form
+formOf r = pick (equal (item r 0) 0x0C) (Numbered (number r 1 4)) Unnumbered
+
+-- "01 parameters: M 4, n 2, m 1.", or "election number 4, any value, then M, n, m as in 01"
+abbrev pub parametersIn : Form → List ℕ → Parameters
+parametersIn form r =
+    let w = numberWidth form in
+    record { form = form; modulus = number r (1 + w) 4; ballots = number r (5 + w) 2; compared = number r (7 + w) 1 }
+
 unfoldable pub parametersOf : List ℕ → Parameters
-parametersOf r = record { modulus = number r 1 4; ballots = number r 5 2; compared = number r 7 1 }
+parametersOf r = parametersIn (formOf r) r
 
 module _ (p : Parameters) (r : List ℕ) where
   -- "02 ballot ..: id 4, six commitments 192."
@@ -124,8 +136,13 @@ disclosureOf r =
 
 -- ---- the bytes that say it
 
+-- the command byte, and behind 0C the election's number
+unfoldable pub formBytes : Form → List ℕ
+formBytes Unnumbered = 0x01 ∷ []
+formBytes (Numbered election) = 0x0C ∷ bytes 4 election
+
 unfoldable pub firstCommand : Parameters → List ℕ
-firstCommand p = (1 ∷ bytes 4 (p .modulus)) ++ (bytes 2 (p .ballots) ++ bytes 1 (p .compared))
+firstCommand p = (formBytes (p .form) ++ bytes 4 (p .modulus)) ++ (bytes 2 (p .ballots) ++ bytes 1 (p .compared))
 
 unfoldable pub entryCommand : ℕ → ℕ → (ℕ → List ℕ) → List ℕ
 entryCommand l i commitments = ((3 ∷ bytes 1 l) ++ bytes 2 i) ++ chunks commitments 6

@@ -11,6 +11,8 @@ use Rattle.laws.specs.Sums.{times}
 use Rattle.laws.specs.Tables.{tabulate}
 use Rattle.laws.specs.Chunks.{piece, chunks}
 use Rattle.sha3.specs.Sha3.{sha3-224}
+use Rattle.protocol.specs.declared.Form.{Form}
+use Rattle.protocol.specs.declared.Form.the-variants.{Unnumbered, Numbered}
 use Rattle.protocol.specs.declared.Parameters.{Parameters}
 use Rattle.protocol.specs.declared.Due.the-variants.{First}
 use Rattle.protocol.specs.Answers.{Answer, answerOf, asPrinted, otherwise, notPosted}
@@ -116,6 +118,18 @@ refusedWord = 82 ∷ 69 ∷ 70 ∷ 85 ∷ 83 ∷ 69 ∷ 68 ∷ 32 ∷ []
 abbrev pub tooLongWord : List ℕ
 tooLongWord = 84 ∷ 79 ∷ 79 ∷ 32 ∷ 76 ∷ 79 ∷ 78 ∷ 71 ∷ []
 
+-- Document 02, item 4: "On the line after `ACCEPTED` the program prints `ELECTION`, a space and the number in decimal for such a record"
+abbrev pub electionWord : List ℕ
+electionWord = 69 ∷ 76 ∷ 69 ∷ 67 ∷ 84 ∷ 73 ∷ 79 ∷ 78 ∷ 32 ∷ []
+
+unfoldable pub electionLine : Form → List ℕ
+electionLine Unnumbered = []
+electionLine (Numbered election) = electionWord ++ (decimal election ++ (10 ∷ []))
+
+-- what stands first on the page of an accepted record
+unfoldable pub acceptedLines : Form → List ℕ
+acceptedLines form = (acceptedWord ++ (10 ∷ [])) ++ electionLine form
+
 -- "a line of the vote, one space, and how often it was announced, in decimal"
 unfoldable pub tallyLine : ℕ → ℕ → List ℕ
 tallyLine vote count = (decimal vote ++ (32 ∷ [])) ++ (decimal count ++ (10 ∷ []))
@@ -125,13 +139,15 @@ tallyLines votes = chunks (λ i. tallyLine (item (distinctVotes votes) i) (item 
 
 -- "A program .. judges it as drawn, and writes the line `ACCEPTED`, then per distinct announced vote, rising, a line .. Otherwise
 -- `REFUSED`, a space and the number"
-unfoldable pub pageOf : ℕ → List ℕ → List ℕ
-pageOf zero votes = (acceptedWord ++ (10 ∷ [])) ++ tallyLines votes
-pageOf (suc k) votes = refusedWord ++ (decimal (suc k) ++ (10 ∷ []))
+unfoldable pub pageOf : ℕ → Form → List ℕ → List ℕ
+pageOf zero form votes = acceptedLines form ++ tallyLines votes
+pageOf (suc k) form votes = refusedWord ++ (decimal (suc k) ++ (10 ∷ []))
 
 -- "a record of at most 65,536 bytes ..; a longer input gives `TOO LONG`"
 unfoldable pub page : List ℕ → List ℕ
-page r = pick (atMost (length r) 65536) (pageOf (numberOf (firstFault true r)) (announcedVotes r)) (tooLongWord ++ (10 ∷ []))
+page r =
+    let shown = pageOf (numberOf (firstFault true r)) (parametersOf r .form) (announcedVotes r) in
+    pick (atMost (length r) 65536) shown (tooLongWord ++ (10 ∷ []))
 
 -- ---- the mask drawn from dice and part one as lent
 

@@ -12,15 +12,15 @@ use Rattle.laws.specs.Sums.{times}
 use Rattle.protocol.specs.declared.Parameters.{Parameters}
 use Rattle.protocol.specs.declared.Place.the-variants.{InBallot, InEntry}
 use Rattle.protocol.specs.Terms.{item, mostBallots, opened, commitment}
-use Rattle.protocol.specs.Layout.{lists, atBallot, atEntry, atFirstDice, atSecondDice, atBallotHalf, atVote, atEnd}
+use Rattle.protocol.specs.Layout.{firstCode, numberWidth, lists, atBallot, atEntry, atFirstDice, atSecondDice, atBallotHalf, atVote, atEnd}
 use Rattle.protocol.specs.Record.{parametersOf, firstDiceOf, maskOf, linkPlace, positionOf, secondDiceOf, sideOf, listHalfPlace, fullPlace, Board, Comparison, Disclosure, boardOf, comparisonOf, disclosureOf}
 use Rattle.protocol.specs.Drawing.{challenge, drawnMask, drawnSide}
 
--- rules 1, 2, 4 and 17: "The whole is 75 + 316n + 734mn bytes", with each command byte and each list, ballot, position and index
+-- rules 1, 2, 4 and 17: "The whole is 75 + 316n + 734mn bytes", or with 0C 4 bytes longer (document 02, item 4), with each command byte and each list, ballot, position and index
 -- operand where it is due
 pub record Laid (p : Parameters) (r : List ℕ) : Type 0 where
-  pub long : length r ≡ 75 + 316 * p .ballots + 734 * (p .compared * p .ballots)
-  pub first : item r 0 ≡ 0x01
+  pub long : length r ≡ 75 + numberWidth (p .form) + 316 * p .ballots + 734 * (p .compared * p .ballots)
+  pub first : item r 0 ≡ firstCode (p .form)
   pub ballots : (j : ℕ) → j < p .ballots → item r (atBallot p j) ≡ 0x02
   pub entries : (l i : ℕ) → l < lists p → i < p .ballots
       → (item r (atEntry p l i) ≡ 0x03) × ((number r (atEntry p l i + 1) 1 ≡ l) × (number r (atEntry p l i + 2) 2 ≡ i))

@@ -7,6 +7,7 @@ use Rattle.laws.specs.Bytes.{bytes}
 use Rattle.laws.specs.Chunks.{piece, chunks}
 use Rattle.laws.specs.Modular.{minus}
 use Rattle.sha3.specs.Sha3.{sha3-224}
+use Rattle.protocol.specs.declared.Form.{Form}
 use Rattle.protocol.specs.declared.Parameters.{Parameters}
 use Rattle.protocol.specs.declared.Place.the-variants.{InBallot}
 use Rattle.protocol.specs.Terms.{parameters, commitment, opening, modulusInLimits}
@@ -30,15 +31,15 @@ slot M value first q = choose (q % 2) (first (q / 2)) (minus M (value (q / 2)) (
 unfoldable pub ballotCommand : ℕ → (ℕ → List ℕ) → List ℕ
 ballotCommand id commitments = (2 ∷ bytes 4 id) ++ chunks commitments 6
 
--- what a tablet knows of the parameters: the modulus
-abbrev pub tabletParameters : ℕ → Parameters
-tabletParameters M = parameters M 0 0
+-- what a tablet knows of the parameters: the form and the modulus
+abbrev pub tabletParameters : Form → ℕ → Parameters
+tabletParameters form M = parameters form M 0 0
 
 -- "six commitments .., with six keys of 32 bytes in that order"
-unfoldable pub tabletCommand : ℕ → ℕ → ℕ → ℕ → ℕ → ℕ → ℕ → ℕ → List ℕ → List ℕ
-tabletCommand M id w x y u1 u2 u3 keys =
+unfoldable pub tabletCommand : Form → ℕ → ℕ → ℕ → ℕ → ℕ → ℕ → ℕ → ℕ → List ℕ → List ℕ
+tabletCommand form M id w x y u1 u2 u3 keys =
     let number = slot M (share M w x y) (λ k. oneOfThree k u1 u2 u3) in
-    ballotCommand id (λ q. commitment (tabletParameters M) (InBallot id q) (opening (piece keys (32 * q) 32) (number q)))
+    ballotCommand id (λ q. commitment (tabletParameters form M) (InBallot id q) (opening (piece keys (32 * q) 32) (number q)))
 
 -- "A receipt is 32 bytes: the ballot's id, then the SHA3-224 of its command (197 bytes)."
 unfoldable pub receipt : ℕ → List ℕ → List ℕ

@@ -1,5 +1,5 @@
 -- Document 01, "Terms": limits, numbers, openings, commitments.
-use mathlib.Core.Bool.{Bool}
+use mathlib.Core.Bool.{Bool, true, false}
 use mathlib.Core.List.{List, [], _∷_, _++_}
 use Prim.Native.Nat.{ℕ, zero, suc, _+_, _/_, _%_}
 use lib.ListN.{length, getD}
@@ -7,12 +7,24 @@ use Rattle.laws.specs.Tests.{below, atMost, _and_, every, pick}
 use Rattle.laws.specs.Bytes.{number, bytes}
 use Rattle.laws.specs.Modular.{plus}
 use Rattle.sha3.specs.Sha3.{sha3-256}
+use Rattle.protocol.specs.declared.Form.{Form}
+use Rattle.protocol.specs.declared.Form.the-variants.{Unnumbered, Numbered}
 use Rattle.protocol.specs.declared.Parameters.{Parameters}
 use Rattle.protocol.specs.declared.Place.{Place}
 
--- the parameters M, n and m
-abbrev pub parameters : ℕ → ℕ → ℕ → Parameters
-parameters M n m = record { modulus = M; ballots = n; compared = m }
+-- the parameters: the first command's form, M, n and m
+abbrev pub parameters : Form → ℕ → ℕ → ℕ → Parameters
+parameters form M n m = record { form = form; modulus = M; ballots = n; compared = m }
+
+-- Document 02, item 4: "servers are told which form to write", by a switch, with the election's number
+unfoldable pub formBy : Bool → ℕ → Form
+formBy true election = Numbered election
+formBy false election = Unnumbered
+
+-- the election's number, or 0 in the form that has none
+unfoldable pub electionNumber : Form → ℕ
+electionNumber Unnumbered = 0
+electionNumber (Numbered election) = election
 
 -- "M is the modulus, 2 to 4,294,967,295."
 unfoldable pub modulusInLimits : ℕ → Bool

@@ -13,8 +13,15 @@ pub const ENTRY_PERMUTATIONS: usize = 3;
 
 pub const KEYS_WIDTH: usize = 192;
 
-// What the first command says: the modulus M, the number of ballots n, and m: of 2m lists m are compared and m are opened.
+// The form of the first command: 01, or 0C with the election's number.
+pub enum Form {
+    Unnumbered,
+    Numbered(u32),
+}
+
+// What the first command says: its form, the modulus M, the number of ballots n, and m: of 2m lists m are compared and m are opened.
 pub struct Parameters {
+    pub form: Form,
     pub modulus: u32,
     pub ballots: usize,
     pub compared: usize,

@@ -122,7 +122,16 @@ fn command(bytes: &[u8], at: usize, due: Due, c: Context, text: &[u8], marks: &[
             Due::End => 0,
             _ => 2,
         },
-        0x00 | 0x0C..=0xFF => 2,
+        0x0C => match due {
+            Due::First => {
+                if left < layout::first_width(p) {
+                    return 1;
+                }
+                rules::first_rules(bytes)
+            }
+            _ => 2,
+        },
+        0x00 | 0x0D..=0xFF => 2,
     }
 }
 

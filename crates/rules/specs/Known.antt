@@ -10,8 +10,8 @@ use Rattle.protocol.specs.declared.Parameters.{Parameters}
 use Rattle.protocol.specs.declared.Due.{Due}
 use Rattle.protocol.specs.declared.Due.the-variants.{First, Ballot, Entry, FirstDice, Link, SecondDice, BallotHalf, ListHalf, Vote, FullOpening, End}
 use Rattle.protocol.specs.Terms.{mostBallots}
-use Rattle.protocol.specs.Layout.{width, lists, atFirstDice, atSecondDice}
-use Rattle.protocol.specs.Record.{firstDiceOf, maskOf, positionOf, shiftOf, secondDiceOf, sideOf, ballotOpeningOf, voteOf, fullOpeningOf}
+use Rattle.protocol.specs.Layout.{firstCode, width, lists, atFirstDice, atSecondDice}
+use Rattle.protocol.specs.Record.{formOf, firstDiceOf, maskOf, positionOf, shiftOf, secondDiceOf, sideOf, ballotOpeningOf, voteOf, fullOpeningOf}
 use Rattle.protocol.specs.Drawing.{challenge}
 use Rattle.protocol.specs.Rules.{numbersBelow, placeOf}
 use Rattle.layout.specs.Bounds.{Few}
@@ -52,9 +52,9 @@ pub record FullKnown (p : Parameters) (r : List ℕ) (l i : ℕ) : Type 0 where
   pub earlier : (k : ℕ) → k < i → numbersBelow (p .modulus) (fullOpeningOf p r l k) 6 ≡ true
   pub votes : (k : ℕ) → suc k < p .ballots → voteOf p r k ≤ voteOf p r (suc k)
 
--- by the due command; all others need nothing of earlier ones
+-- by the due command; the first goes by a form whose byte is that of the record's own, all others need nothing of earlier ones
 abbrev pub Known : Parameters → List ℕ → Bool → List ℕ → List Bool → Due → Type 0
-Known p r drawn text marks First = Unit {0}
+Known p r drawn text marks First = firstCode (p .form) ≡ firstCode (formOf r)
 Known p r drawn text marks (Ballot j) = Unit {0}
 Known p r drawn text marks (Entry l i) = Unit {0}
 Known p r drawn text marks FirstDice = FirstDiceKnown p r drawn text

@@ -23,11 +23,12 @@ use protocol::Verdict;
 
 // ---- the first command
 
-// The fault of the first command. No parameters are known yet, and it needs none.
+// The fault of the first command. No parameters are known yet, and of its form it needs the byte alone.
 pub fn first_command_fault(bytes: &[u8], drawn: bool) -> Found
     ensures { λ r. ⌜ r ≡ found drawn (parametersOf (before bytes)) (before bytes) Due.First ⌝ }
 {
     let none = Parameters {
+        form: layout::due_form(bytes),
         modulus: 0,
         ballots: 0,
         compared: 0,
