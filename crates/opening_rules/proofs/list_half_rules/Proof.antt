@@ -127,6 +127,10 @@ past-numbers c = goes-on 10 _ _ (past-position (c .before .before)) (numbers-kep
 past-openings : (c : tie.Else4) → (let s = c .before .before .before .before .before .before .before .before .before .before .before .before .before .before .before .before in all s ≡ from14 (s .args .p) (s .args .bytes .now) (s .args .at) (s .args .l) (s .args .j))
 past-openings c = goes-on 13 _ _ (past-numbers (c .before .before .before .before .before)) (sym (given (c .before)) ∙ not-false _ (c .if4 .left))
 
+agrees-same : (M : ℕ) {side side′ ballot ballot′ list list′ t t′ : ℕ} → side ≡ side′ → ballot ≡ ballot′ → list ≡ list′ → t ≡ t′
+    → agrees M side ballot list t ≡ agrees M side′ ballot′ list′ t′
+agrees-same M e f g h = rw (e, f, g, h)
+
 agreed-read : (c : tie.After-halves-agree) → (let s = c .before .before .before .before .before .before .before .before .before .before .before .before .before .before .before .before .before .before .before .before in c .halves-agree .result ≡ agreed (s .args .p) (s .args .bytes .now) (s .args .at) (s .args .l) (s .args .j))
 agreed-read c =
     let s = c .before .before .before .before .before .before .before .before .before .before .before .before .before .before .before .before .before .before .before .before in
@@ -135,7 +139,7 @@ agreed-read c =
     let ballot = c .before .before .before .sum-of-three .ensures .0 ∙ ap (sumOfThree M) (half-read (c .before .before .before .before .before .before .before .before)) in
     let list = c .before .before .sum-of-three2 .ensures .0 in
     let t = shift-read (c .before) in
-    _∙_ {b = agrees M (c .before .before .before .before .before .before .before .read12 .result) (c .before .before .before .sum-of-three .result) (c .before .before .sum-of-three2 .result) (c .before .read4 .result)} (c .halves-agree .ensures) (cc)
+    c .halves-agree .ensures ∙ agrees-same M side ballot list t
 
 -- ----
 

@@ -1,7 +1,7 @@
 use mathlib.Core.Path.{refl}
 use native.Mathlib.Omega.{arith}
 use borrow.Author.Needs.{needs}
-use Rattle.reader.proofs.Faults.{gone, cut, whole, other-due, unknown}
+use Rattle.reader.proofs.Faults.{gone, cut, whole, other-due, later-due, unknown, unnumbered-due, numbered-due, first-whole}
 use Rattle.reader.proofs.Known.{told}
 use Rattle.reader.proofs.command.Statement.{statement}
 use Rattle.reader.proofs.command.Tie as tie
@@ -10,7 +10,7 @@ returns : tie.Need-returns
 returns c = gone _ _ _ _ (c .before .before .before .before .pre .0) (omega arith)
 
 returns-2 : tie.Need-returns-2
-returns-2 c = cut _ _ _ _ (c .before .before .before .before .before .before .before .before .before .before .before .pre .0) (omega arith) (c .before .before .enum-told .given .1) (c .before .before .before .before .match .keys1) (omega arith)
+returns-2 c = cut _ _ _ _ (c .before .before .before .before .before .before .before .before .before .before .before .pre .0) (omega arith) (c .before .before .enum-told .given .1) (unnumbered-due (c .before .before .before .before .before .before .before .before .before .before .before .args .c .parameters) _ (told (c .before .before .before .before .before .before .before .before .before .before .before .args .c .parameters) _ _ _ _ (c .before .before .enum-told .given .1) (c .before .before .before .before .before .before .before .before .before .before .before .pre)) (c .before .before .before .before .match .keys1)) (omega arith)
 
 returns-3 : tie.Need-returns-3
 returns-3 c = cut _ _ _ _ (c .before .before .before .before .before .before .before .before .before .before .before .pre .0) (omega arith) (c .before .before .due .given .1) (c .before .before .before .before .match .keys2) (omega arith)
@@ -66,79 +66,94 @@ returns-11 c = cut _ _ _ _ (c .before .before .before .before .before .before .b
 full-rules-requires : tie.Need-full-rules-requires
 full-rules-requires c κs = let k = told _ _ _ _ _ (c .before .before .due7 .given .1) (c .before .before .before .before .before .before .before .before .before .before .before .pre) in record { here = k .0; whole = omega arith; known = k .1 }
 
-returns-12 : tie.Need-returns-12
-returns-12 c = whole _ _ _ _ (c .before .before .before .before .before .before .before .before .before .before .before .before .pre .0) (omega arith) (c .before .before .before .enum-told .given .1) (c .before .before .before .before .before .match .keys1) (omega arith) (c .first-rules .ensures)
-
 returns-13 : tie.Need-returns-13
-returns-13 c = other-due _ _ _ _ (c .before .before .before .before .before .before .before .before .pre .0) (omega arith) (c .before .match .keys1) (c .match2 .keys2) tt
+returns-13 c = whole _ _ _ _ (c .before .before .before .before .before .before .before .before .before .before .before .before .pre .0) (omega arith) (c .before .before .before .enum-told .given .1) (unnumbered-due (c .before .before .before .before .before .before .before .before .before .before .before .before .args .c .parameters) _ (told (c .before .before .before .before .before .before .before .before .before .before .before .before .args .c .parameters) _ _ _ _ (c .before .before .before .enum-told .given .1) (c .before .before .before .before .before .before .before .before .before .before .before .before .pre)) (c .before .before .before .before .before .match .keys1)) (omega arith) (c .first-rules .ensures)
 
 returns-14 : tie.Need-returns-14
-returns-14 c = whole _ _ _ _ (c .before .before .before .before .before .before .before .before .before .before .before .before .pre .0) (omega arith) (c .before .before .before .due .given .1) (c .before .before .before .before .before .match .keys2) (omega arith) (c .ballot-rules .ensures)
+returns-14 c = other-due _ _ _ _ (c .before .before .before .before .before .before .before .before .pre .0) (omega arith) (c .before .match .keys1) (omega arith) (c .match2 .keys2) tt
 
 returns-15 : tie.Need-returns-15
-returns-15 c = other-due _ _ _ _ (c .before .before .before .before .before .before .before .before .pre .0) (omega arith) (c .before .match .keys2) (c .match3 .keys2) tt
+returns-15 c = whole _ _ _ _ (c .before .before .before .before .before .before .before .before .before .before .before .before .pre .0) (omega arith) (c .before .before .before .due .given .1) (c .before .before .before .before .before .match .keys2) (omega arith) (c .ballot-rules .ensures)
 
 returns-16 : tie.Need-returns-16
-returns-16 c = whole _ _ _ _ (c .before .before .before .before .before .before .before .before .before .before .before .before .pre .0) (omega arith) (c .before .before .before .due2 .given .1) (c .before .before .before .before .before .match .keys3) (omega arith) (c .entry-rules .ensures)
+returns-16 c = other-due _ _ _ _ (c .before .before .before .before .before .before .before .before .pre .0) (omega arith) (c .before .match .keys2) (omega arith) (c .match3 .keys2) tt
 
 returns-17 : tie.Need-returns-17
-returns-17 c = other-due _ _ _ _ (c .before .before .before .before .before .before .before .before .pre .0) (omega arith) (c .before .match .keys3) (c .match4 .keys2) tt
+returns-17 c = whole _ _ _ _ (c .before .before .before .before .before .before .before .before .before .before .before .before .pre .0) (omega arith) (c .before .before .before .due2 .given .1) (c .before .before .before .before .before .match .keys3) (omega arith) (c .entry-rules .ensures)
 
 returns-18 : tie.Need-returns-18
-returns-18 c = whole _ _ _ _ (c .before .before .before .before .before .before .before .before .before .before .before .pre .0) (omega arith) (c .before .before .enum-told2 .given .1) (c .before .before .before .before .match .keys4) (omega arith) (c .first-dice-rules .ensures)
+returns-18 c = other-due _ _ _ _ (c .before .before .before .before .before .before .before .before .pre .0) (omega arith) (c .before .match .keys3) (omega arith) (c .match4 .keys2) tt
 
 returns-19 : tie.Need-returns-19
-returns-19 c = other-due _ _ _ _ (c .before .before .before .before .before .before .before .before .pre .0) (omega arith) (c .before .match .keys4) (c .match5 .keys2) tt
+returns-19 c = whole _ _ _ _ (c .before .before .before .before .before .before .before .before .before .before .before .pre .0) (omega arith) (c .before .before .enum-told2 .given .1) (c .before .before .before .before .match .keys4) (omega arith) (c .first-dice-rules .ensures)
 
 returns-20 : tie.Need-returns-20
-returns-20 c = whole _ _ _ _ (c .before .before .before .before .before .before .before .before .before .before .before .before .pre .0) (omega arith) (c .before .before .before .due3 .given .1) (c .before .before .before .before .before .match .keys5) (omega arith) (c .link-rules .ensures)
+returns-20 c = other-due _ _ _ _ (c .before .before .before .before .before .before .before .before .pre .0) (omega arith) (c .before .match .keys4) (omega arith) (c .match5 .keys2) tt
 
 returns-21 : tie.Need-returns-21
-returns-21 c = other-due _ _ _ _ (c .before .before .before .before .before .before .before .before .pre .0) (omega arith) (c .before .match .keys5) (c .match6 .keys2) tt
+returns-21 c = whole _ _ _ _ (c .before .before .before .before .before .before .before .before .before .before .before .before .pre .0) (omega arith) (c .before .before .before .due3 .given .1) (c .before .before .before .before .before .match .keys5) (omega arith) (c .link-rules .ensures)
 
 returns-22 : tie.Need-returns-22
-returns-22 c = whole _ _ _ _ (c .before .before .before .before .before .before .before .before .before .before .before .pre .0) (omega arith) (c .before .before .enum-told3 .given .1) (c .before .before .before .before .match .keys6) (omega arith) (c .second-dice-rules .ensures)
+returns-22 c = other-due _ _ _ _ (c .before .before .before .before .before .before .before .before .pre .0) (omega arith) (c .before .match .keys5) (omega arith) (c .match6 .keys2) tt
 
 returns-23 : tie.Need-returns-23
-returns-23 c = other-due _ _ _ _ (c .before .before .before .before .before .before .before .before .pre .0) (omega arith) (c .before .match .keys6) (c .match7 .keys2) tt
+returns-23 c = whole _ _ _ _ (c .before .before .before .before .before .before .before .before .before .before .before .pre .0) (omega arith) (c .before .before .enum-told3 .given .1) (c .before .before .before .before .match .keys6) (omega arith) (c .second-dice-rules .ensures)
 
 returns-24 : tie.Need-returns-24
-returns-24 c = whole _ _ _ _ (c .before .before .before .before .before .before .before .before .before .before .before .before .pre .0) (omega arith) (c .before .before .before .due4 .given .1) (c .before .before .before .before .before .match .keys7) (omega arith) (c .ballot-half-rules .ensures)
+returns-24 c = other-due _ _ _ _ (c .before .before .before .before .before .before .before .before .pre .0) (omega arith) (c .before .match .keys6) (omega arith) (c .match7 .keys2) tt
 
 returns-25 : tie.Need-returns-25
-returns-25 c = other-due _ _ _ _ (c .before .before .before .before .before .before .before .before .pre .0) (omega arith) (c .before .match .keys7) (c .match8 .keys2) tt
+returns-25 c = whole _ _ _ _ (c .before .before .before .before .before .before .before .before .before .before .before .before .pre .0) (omega arith) (c .before .before .before .due4 .given .1) (c .before .before .before .before .before .match .keys7) (omega arith) (c .ballot-half-rules .ensures)
 
 returns-26 : tie.Need-returns-26
-returns-26 c = whole _ _ _ _ (c .before .before .before .before .before .before .before .before .before .before .before .before .pre .0) (omega arith) (c .before .before .before .due5 .given .1) (c .before .before .before .before .before .match .keys8) (omega arith) (c .list-half-rules .ensures)
+returns-26 c = other-due _ _ _ _ (c .before .before .before .before .before .before .before .before .pre .0) (omega arith) (c .before .match .keys7) (omega arith) (c .match8 .keys2) tt
 
 returns-27 : tie.Need-returns-27
-returns-27 c = other-due _ _ _ _ (c .before .before .before .before .before .before .before .before .pre .0) (omega arith) (c .before .match .keys8) (c .match9 .keys2) tt
+returns-27 c = whole _ _ _ _ (c .before .before .before .before .before .before .before .before .before .before .before .before .pre .0) (omega arith) (c .before .before .before .due5 .given .1) (c .before .before .before .before .before .match .keys8) (omega arith) (c .list-half-rules .ensures)
 
 returns-28 : tie.Need-returns-28
-returns-28 c = whole _ _ _ _ (c .before .before .before .before .before .before .before .before .before .before .before .before .pre .0) (omega arith) (c .before .before .before .due6 .given .1) (c .before .before .before .before .before .match .keys9) (omega arith) (c .vote-rules .ensures)
+returns-28 c = other-due _ _ _ _ (c .before .before .before .before .before .before .before .before .pre .0) (omega arith) (c .before .match .keys8) (omega arith) (c .match9 .keys2) tt
 
 returns-29 : tie.Need-returns-29
-returns-29 c = other-due _ _ _ _ (c .before .before .before .before .before .before .before .before .pre .0) (omega arith) (c .before .match .keys9) (c .match10 .keys2) tt
+returns-29 c = whole _ _ _ _ (c .before .before .before .before .before .before .before .before .before .before .before .before .pre .0) (omega arith) (c .before .before .before .due6 .given .1) (c .before .before .before .before .before .match .keys9) (omega arith) (c .vote-rules .ensures)
 
 returns-30 : tie.Need-returns-30
-returns-30 c = whole _ _ _ _ (c .before .before .before .before .before .before .before .before .before .before .before .before .pre .0) (omega arith) (c .before .before .before .due7 .given .1) (c .before .before .before .before .before .match .keys10) (omega arith) (c .full-rules .ensures)
+returns-30 c = other-due _ _ _ _ (c .before .before .before .before .before .before .before .before .pre .0) (omega arith) (c .before .match .keys9) (omega arith) (c .match10 .keys2) tt
 
 returns-31 : tie.Need-returns-31
-returns-31 c = other-due _ _ _ _ (c .before .before .before .before .before .before .before .before .pre .0) (omega arith) (c .before .match .keys10) (c .match11 .keys2) tt
+returns-31 c = whole _ _ _ _ (c .before .before .before .before .before .before .before .before .before .before .before .before .pre .0) (omega arith) (c .before .before .before .due7 .given .1) (c .before .before .before .before .before .match .keys10) (omega arith) (c .full-rules .ensures)
 
 returns-32 : tie.Need-returns-32
-returns-32 c = whole _ _ _ _ (c .before .before .before .before .before .before .before .before .before .pre .0) (omega arith) (c .enum-told4 .given .1) (c .before .before .match .keys11) (omega arith) refl
+returns-32 c = other-due _ _ _ _ (c .before .before .before .before .before .before .before .before .pre .0) (omega arith) (c .before .match .keys10) (omega arith) (c .match11 .keys2) tt
 
 returns-33 : tie.Need-returns-33
-returns-33 c = other-due _ _ _ _ (c .before .before .before .before .before .before .before .before .pre .0) (omega arith) (c .before .match .keys11) (c .match12 .keys2) tt
+returns-33 c = whole _ _ _ _ (c .before .before .before .before .before .before .before .before .before .pre .0) (omega arith) (c .enum-told4 .given .1) (c .before .before .match .keys11) (omega arith) refl
 
 returns-34 : tie.Need-returns-34
-returns-34 c = unknown _ _ _ _ (c .before .before .before .before .before .before .before .pre .0) (omega arith) (omega (arith, c .match .keys12))
+returns-34 c = other-due _ _ _ _ (c .before .before .before .before .before .before .before .before .pre .0) (omega arith) (c .before .match .keys11) (omega arith) (c .match12 .keys2) tt
+
+returns-37 : tie.Need-returns-37
+returns-37 c = unknown _ _ _ _ (c .before .before .before .before .before .before .before .pre .0) (omega arith) (omega (arith, c .match .keys13))
+
+returns-38 : tie.Need-returns-38
+returns-38 c =
+    let n = c .match .rest in
+    unknown _ _ _ _ (c .before .before .before .before .before .before .before .pre .0) (omega arith) (n .0 .0 .0 .0 .0 .0 .0 .0 .0 .0 .0 .0 .1, n .0 .0 .0 .0 .0 .0 .0 .0 .0 .0 .0 .1, n .0 .0 .0 .0 .0 .0 .0 .0 .0 .0 .1, n .0 .0 .0 .0 .0 .0 .0 .0 .0 .1, n .0 .0 .0 .0 .0 .0 .0 .0 .1, n .0 .0 .0 .0 .0 .0 .0 .1, n .0 .0 .0 .0 .0 .0 .1, n .0 .0 .0 .0 .0 .1, n .0 .0 .0 .0 .1, n .0 .0 .0 .1, n .0 .0 .1, n .0 .1)
+
+first-rules-requires : tie.Need-first-rules-requires
+first-rules-requires c κs = first-whole (c .before .before .before .before .before .before .before .before .before .before .before .args .c .parameters) _ (told (c .before .before .before .before .before .before .before .before .before .before .before .args .c .parameters) _ _ _ _ (c .before .before .enum-told .given .1) (c .before .before .before .before .before .before .before .before .before .before .before .pre)) (omega arith)
+
+returns-12 : tie.Need-returns-12
+returns-12 c = cut _ _ _ _ (c .before .before .before .before .before .before .before .before .before .before .before .pre .0) (omega arith) (c .before .before .enum-told5 .given .1) (numbered-due (c .before .before .before .before .before .before .before .before .before .before .before .args .c .parameters) _ (told (c .before .before .before .before .before .before .before .before .before .before .before .args .c .parameters) _ _ _ _ (c .before .before .enum-told5 .given .1) (c .before .before .before .before .before .before .before .before .before .before .before .pre)) (c .before .before .before .before .match .keys12)) (omega arith)
+
+first-rules-requires-2 : tie.Need-first-rules-requires-2
+first-rules-requires-2 c κs = first-whole (c .before .before .before .before .before .before .before .before .before .before .before .args .c .parameters) _ (told (c .before .before .before .before .before .before .before .before .before .before .before .args .c .parameters) _ _ _ _ (c .before .before .enum-told5 .given .1) (c .before .before .before .before .before .before .before .before .before .before .before .pre)) (omega arith)
 
 returns-35 : tie.Need-returns-35
-returns-35 c =
-    let n = c .match .rest in
-    unknown _ _ _ _ (c .before .before .before .before .before .before .before .pre .0) (omega arith) (n .0 .0 .0 .0 .0 .0 .0 .0 .0 .0 .0 .1, n .0 .0 .0 .0 .0 .0 .0 .0 .0 .0 .1, n .0 .0 .0 .0 .0 .0 .0 .0 .0 .1, n .0 .0 .0 .0 .0 .0 .0 .0 .1, n .0 .0 .0 .0 .0 .0 .0 .1, n .0 .0 .0 .0 .0 .0 .1, n .0 .0 .0 .0 .0 .1, n .0 .0 .0 .0 .1, n .0 .0 .0 .1, n .0 .0 .1, n .0 .1)
+returns-35 c = whole _ _ _ _ (c .before .before .before .before .before .before .before .before .before .before .before .before .pre .0) (omega arith) (c .before .before .before .enum-told5 .given .1) (numbered-due (c .before .before .before .before .before .before .before .before .before .before .before .before .args .c .parameters) _ (told (c .before .before .before .before .before .before .before .before .before .before .before .before .args .c .parameters) _ _ _ _ (c .before .before .before .enum-told5 .given .1) (c .before .before .before .before .before .before .before .before .before .before .before .before .pre)) (c .before .before .before .before .before .match .keys12)) (omega arith) (c .first-rules2 .ensures)
+
+returns-36 : tie.Need-returns-36
+returns-36 c = later-due _ _ _ _ (c .before .before .before .before .before .before .before .before .pre .0) (omega arith) (c .before .match .keys12) (c .match13 .keys2)
 
 pub command-spec : {M : Type 1} → statement M
 command-spec =
@@ -150,7 +165,7 @@ command-spec =
     (λ c. search needs)
     (λ c κs. search needs)
     returns-2
-    (λ c κs. search needs)
+    first-rules-requires
     (λ c. search needs)
     returns-3
     ballot-rules-requires
@@ -179,7 +194,10 @@ command-spec =
     returns-11
     full-rules-requires
     (λ c. search needs)
+    (λ c. search needs)
+    (λ c κs. search needs)
     returns-12
+    first-rules-requires-2
     returns-13
     returns-14
     returns-15
@@ -202,4 +220,7 @@ command-spec =
     returns-32
     returns-33
     returns-34
-    returns-35)
+    returns-35
+    returns-36
+    returns-37
+    returns-38)
