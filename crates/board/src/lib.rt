@@ -15,6 +15,7 @@ ghost use Rattle.protocol.specs.Inputs.{given, inputsOf, partOneRefusal, afterw
 ghost use Rattle.protocol.specs.Servers.{postedBoard, firstPart};
 ghost use Rattle.mixing.specs.Passed.{Passed};
 use protocol::KEYS_WIDTH;
+use protocol::Form;
 use protocol::Parameters;
 use protocol::Written;
 
@@ -133,6 +134,7 @@ pub fn write(
 
 // Entry: part one into a buffer of its own. All that can be refused is tested before the first byte is written.
 pub fn part_one(
+    form: Form,
     modulus: u32,
     ballots: u32,
     compared: u32,
@@ -144,12 +146,13 @@ pub fn part_one(
     out: &mut [u8],
 ) -> Written
     ensures { λ r.
-        let p = parameters modulus ballots compared in
+        let p = parameters form modulus ballots compared in
         let s = given p (before ids) (before votes) (before numbers) (before permutations) (before keys) in
         let k = partOneRefusal s (length (before out)) in
         ⌜ (writtenAnswer r ≡ answerOf k []) × (after out ≡ afterwards k (before out) (firstPart s)) ⌝ }
 {
     let p = Parameters {
+        form,
         modulus,
         ballots: ballots as usize,
         compared: compared as usize,

@@ -9,11 +9,12 @@ ghost use Rattle.laws.specs.Lent.{before, after};
 ghost use Rattle.laws.specs.Writing.{Went};
 ghost use Rattle.protocol.specs.declared.Place.the-variants.{InBallot, InEntry};
 ghost use Rattle.protocol.specs.Terms.{commitment};
-ghost use Rattle.protocol.specs.Layout.{firstWidth};
+ghost use Rattle.protocol.specs.Layout.{numberWidth, firstWidth};
 ghost use Rattle.protocol.specs.Tablet.{ballotCommand};
-ghost use Rattle.protocol.specs.Record.{firstCommand, entryCommand, firstDiceCommand, linkCommand, secondDiceCommand, ballotHalfCommand, listHalfCommand, voteCommand, fullCommand};
+ghost use Rattle.protocol.specs.Record.{formBytes, firstCommand, entryCommand, firstDiceCommand, linkCommand, secondDiceCommand, ballotHalfCommand, listHalfCommand, voteCommand, fullCommand};
 ghost use Rattle.commitment.specs.Slots.{inSlot};
 ghost use Rattle.commands.specs.Openings.{openingOf};
+use protocol::Form;
 use protocol::Parameters;
 use protocol::Place;
 
@@ -92,12 +93,27 @@ fn put_head(out: &mut [u8], at: usize, code: u32, l: u32, i: u32) -> usize
     wire::put2(out, b, i)
 }
 
-// 01: the parameters.
+// The first command's byte, and behind 0C the election's number.
+fn put_form(out: &mut [u8], at: usize, form: Form) -> usize
+    requires { ⌜ at + (1 + numberWidth form) ≤ length (now out) ⌝ }
+    ensures { λ r. ⌜ Went (before out) at (formBytes form) (after out) r ⌝ }
+{
+    match form {
+        Form::Unnumbered => wire::put1(out, at, 0x01),
+        Form::Numbered(election) => {
+            let next = wire::put1(out, at, 0x0C);
+            wire::put4(out, next, election)
+        }
+    }
+}
+
+// 01 or 0C: the parameters.
 pub fn put_first(out: &mut [u8], at: usize, p: Parameters) -> usize
     requires { ⌜ (p .ballots < 65536) × ((p .compared < 256) × (at + firstWidth p ≤ length (now out))) ⌝ }
     ensures { λ r. ⌜ Went (before out) at (firstCommand p) (after out) r ⌝ }
 {
-    let a = wire::put1(out, at, 1);
+    let form = p.form;
+    let a = put_form(out, at, form);
     let b = wire::put4(out, a, p.modulus);
     let c = wire::put2(out, b, p.ballots as u32);
     wire::put1(out, c, p.compared as u32)

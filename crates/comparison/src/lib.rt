@@ -23,6 +23,7 @@ ghost use Rattle.mixing.specs.Passed.{Passed};
 ghost use Rattle.comparison.specs.Links.{PlacesOf};
 use protocol::Draw;
 use protocol::MOST_BALLOTS;
+use protocol::Form;
 use protocol::Parameters;
 use protocol::Written;
 
@@ -218,6 +219,7 @@ pub fn write(
 
 // Entry: part two into a buffer of its own, mask given. All that can be refused is tested before the first byte is written.
 pub fn part_two(
+    form: Form,
     modulus: u32,
     ballots: u32,
     compared: u32,
@@ -231,12 +233,13 @@ pub fn part_two(
     out: &mut [u8],
 ) -> Written
     ensures { λ r.
-        let p = parameters modulus ballots compared in
+        let p = parameters form modulus ballots compared in
         let s = given p (before ids) (before votes) (before numbers) (before permutations) (before keys) in
         let k = partTwoRefusal s (before dice) mask (length (before out)) in
         ⌜ (writtenAnswer r ≡ answerOf k []) × (after out ≡ afterwards k (before out) (secondPart s (before dice) mask)) ⌝ }
 {
     let p = Parameters {
+        form,
         modulus,
         ballots: ballots as usize,
         compared: compared as usize,
@@ -270,6 +273,7 @@ pub fn mask_of(p: Parameters, dice: &[u8], one: &[u8]) -> u32
 
 // Entry: part two into a buffer of its own, mask drawn from the dice and part one as lent.
 pub fn part_two_drawn(
+    form: Form,
     modulus: u32,
     ballots: u32,
     compared: u32,
@@ -283,13 +287,14 @@ pub fn part_two_drawn(
     out: &mut [u8],
 ) -> Written
     ensures { λ r.
-        let p = parameters modulus ballots compared in
+        let p = parameters form modulus ballots compared in
         let s = given p (before ids) (before votes) (before numbers) (before permutations) (before keys) in
         let k = partTwoDrawnRefusal s (before dice) (length (before one)) (length (before out)) in
         let two = secondPart s (before dice) (maskFor s (before dice) (before one)) in
         ⌜ (writtenAnswer r ≡ answerOf k []) × (after out ≡ afterwards k (before out) two) ⌝ }
 {
     let p = Parameters {
+        form,
         modulus,
         ballots: ballots as usize,
         compared: compared as usize,
@@ -314,10 +319,11 @@ pub fn part_two_drawn(
 }
 
 // Entry: the mask that part two draws, so that it can be handed to part three.
-pub fn draw(modulus: u32, ballots: u32, compared: u32, dice: &[u8], one: &[u8]) -> Draw
-    ensures { λ r. ⌜ drawAnswer r ≡ drawn (parameters modulus ballots compared) (before dice) (before one) ⌝ }
+pub fn draw(form: Form, modulus: u32, ballots: u32, compared: u32, dice: &[u8], one: &[u8]) -> Draw
+    ensures { λ r. ⌜ drawAnswer r ≡ drawn (parameters form modulus ballots compared) (before dice) (before one) ⌝ }
 {
     let p = Parameters {
+        form,
         modulus,
         ballots: ballots as usize,
         compared: compared as usize,

@@ -18,6 +18,7 @@ ghost use Rattle.protocol.specs.Servers.{thirdPart, sidesFor};
 ghost use Rattle.protocol.specs.Answers.{answerOf, writtenAnswer};
 ghost use Rattle.disclosure.specs.Disclosed.{Drawable, Writable};
 use protocol::MOST_BALLOTS;
+use protocol::Form;
 use protocol::Parameters;
 use protocol::Written;
 
@@ -109,6 +110,7 @@ pub fn write_drawn(
 
 // Entry: part three into a buffer of its own, sides given. All that can be refused is tested before the first byte is written.
 pub fn part_three(
+    form: Form,
     modulus: u32,
     ballots: u32,
     compared: u32,
@@ -123,12 +125,13 @@ pub fn part_three(
     out: &mut [u8],
 ) -> Written
     ensures { λ r.
-        let p = parameters modulus ballots compared in
+        let p = parameters form modulus ballots compared in
         let s = given p (before ids) (before votes) (before numbers) (before permutations) (before keys) in
         let k = partThreeRefusal s (before dice) mask (before sides) (length (before out)) in
         ⌜ (writtenAnswer r ≡ answerOf k []) × (after out ≡ afterwards k (before out) (thirdPart s (before dice) mask (before sides))) ⌝ }
 {
     let p = Parameters {
+        form,
         modulus,
         ballots: ballots as usize,
         compared: compared as usize,
@@ -165,6 +168,7 @@ pub fn part_three(
 
 // Entry: part three into a buffer of its own, sides drawn from the dice and parts one and two as lent.
 pub fn part_three_drawn(
+    form: Form,
     modulus: u32,
     ballots: u32,
     compared: u32,
@@ -180,13 +184,14 @@ pub fn part_three_drawn(
     out: &mut [u8],
 ) -> Written
     ensures { λ r.
-        let p = parameters modulus ballots compared in
+        let p = parameters form modulus ballots compared in
         let s = given p (before ids) (before votes) (before numbers) (before permutations) (before keys) in
         let k = partThreeDrawnRefusal s (before dice) mask (length (before one)) (length (before two)) (length (before out)) in
         let part = thirdPart s (before dice) mask (sidesFor s (before dice) (before one) (before two)) in
         ⌜ (writtenAnswer r ≡ answerOf k []) × (after out ≡ afterwards k (before out) part) ⌝ }
 {
     let p = Parameters {
+        form,
         modulus,
         ballots: ballots as usize,
         compared: compared as usize,

@@ -12,6 +12,7 @@ ghost use Rattle.protocol.specs.Election.{choiceOf, maskBy, sidesBy, electionRe
 ghost use Rattle.election.specs.Holding.{outcomeAnswer, lent, buffers, partsOf, Held};
 ghost use Rattle.election.specs.Ready.{SecondReady, ThirdReady};
 use protocol::MOST_BALLOTS;
+use protocol::Form;
 use protocol::Parameters;
 use protocol::Verdict;
 
@@ -186,6 +187,7 @@ fn write(
 pub fn hold(
     mask_given: bool,
     sides_given: bool,
+    form: Form,
     modulus: u32,
     ballots: u32,
     compared: u32,
@@ -204,7 +206,7 @@ pub fn hold(
     joined: &mut [u8],
 ) -> Outcome
     ensures { λ r.
-        let p = parameters modulus ballots compared in
+        let p = parameters form modulus ballots compared in
         let s = given p (before ids) (before votes) (before numbers) (before permutations) (before keys) in
         let byMask = choiceOf «mask_given» mask in
         let bySides = choiceOf «sides_given» (before sides) in
@@ -214,6 +216,7 @@ pub fn hold(
         ⌜ Held e was is (outcomeAnswer r) ⌝ }
 {
     let p = Parameters {
+        form,
         modulus,
         ballots: ballots as usize,
         compared: compared as usize,

@@ -8,7 +8,7 @@ ghost use Rattle.laws.specs.Lent.{before, after};
 ghost use Rattle.laws.specs.Tests.{differ, choose};
 ghost use Rattle.keccak.specs.Keccak.{keccakF};
 ghost use Rattle.sha3.specs.Sha3.{sha3-224, sha3-256};
-ghost use Rattle.protocol.specs.Terms.{parameters};
+ghost use Rattle.protocol.specs.Terms.{parameters, formBy};
 ghost use Rattle.protocol.specs.Tablet as tablets;
 ghost use Rattle.protocol.specs.Tablet.{tabletCommand, tabletRefusal};
 ghost use Rattle.protocol.specs.Columns.{rowServer, thirdOffsets, secondHalves, rowRefusal, pairRefusal};
@@ -25,6 +25,7 @@ ghost use Rattle.paddockyear.specs.Codes.{codeOf, valueIn, receiptCode, 
 use election::Outcome;
 use laws::Found;
 use protocol::Draw;
+use protocol::Form;
 use protocol::Receipt;
 use protocol::Tally;
 use protocol::Written;
@@ -85,9 +86,21 @@ fn written_code(w: Written) -> u32
     }
 }
 
+// The first command's form: 0C with the election's number, unless `numbered` is 0.
+fn form(numbered: u32, election: u32) -> Form
+    ensures { λ r. ⌜ r ≡ formBy (differ numbered 0) election ⌝ }
+{
+    if numbered != 0 {
+        return Form::Numbered(election);
+    }
+    Form::Unnumbered
+}
+
 // A vote's ballot command and receipt.
 #[no_mangle]
 pub extern "C" fn paddockyear_tablet(
+    numbered: u32,
+    election: u32,
     modulus: u32,
     id: u32,
     vote: u32,
@@ -103,11 +116,11 @@ pub extern "C" fn paddockyear_tablet(
     ensures { λ r.
         let refused = tabletRefusal modulus vote x y u1 u2 u3 in
         let k = refused (length (before keys)) (length (before command)) (length (before receipt)) in
-        let posted = tabletCommand modulus id vote x y u1 u2 u3 (before keys) in
+        let posted = tabletCommand (formBy (differ numbered 0) election) modulus id vote x y u1 u2 u3 (before keys) in
         let printed = tablets.receipt id posted in
         ⌜ (r ≡ k) × ((after command ≡ afterwards k (before command) posted) × (after receipt ≡ afterwards k (before receipt) printed)) ⌝ }
 {
-    written_code(tablet::cast(modulus, id, vote, x, y, u1, u2, u3, keys, command, receipt))
+    written_code(tablet::cast(form(numbered, election), modulus, id, vote, x, y, u1, u2, u3, keys, command, receipt))
 }
 
 // A row server's column.
@@ -167,6 +180,8 @@ pub extern "C" fn paddockyear_split(
 // Part one.
 #[no_mangle]
 pub extern "C" fn paddockyear_part_one(
+    numbered: u32,
+    election: u32,
     modulus: u32,
     ballots: u32,
     compared: u32,
@@ -178,12 +193,13 @@ pub extern "C" fn paddockyear_part_one(
     out: &mut [u8],
 ) -> u32
     ensures { λ r.
-        let p = parameters modulus ballots compared in
+        let p = parameters (formBy (differ numbered 0) election) modulus ballots compared in
         let s = given p (before ids) (before votes) (before numbers) (before permutations) (before keys) in
         let k = partOneRefusal s (length (before out)) in
         ⌜ (r ≡ k) × (after out ≡ afterwards k (before out) (firstPart s)) ⌝ }
 {
     written_code(board::part_one(
+        form(numbered, election),
         modulus,
         ballots,
         compared,
@@ -199,6 +215,8 @@ pub extern "C" fn paddockyear_part_one(
 // Part two, mask given.
 #[no_mangle]
 pub extern "C" fn paddockyear_part_two(
+    numbered: u32,
+    election: u32,
     modulus: u32,
     ballots: u32,
     compared: u32,
@@ -212,12 +230,13 @@ pub extern "C" fn paddockyear_part_two(
     out: &mut [u8],
 ) -> u32
     ensures { λ r.
-        let p = parameters modulus ballots compared in
+        let p = parameters (formBy (differ numbered 0) election) modulus ballots compared in
         let s = given p (before ids) (before votes) (before numbers) (before permutations) (before keys) in
         let k = partTwoRefusal s (before dice) mask (length (before out)) in
         ⌜ (r ≡ k) × (after out ≡ afterwards k (before out) (secondPart s (before dice) mask)) ⌝ }
 {
     written_code(comparison::part_two(
+        form(numbered, election),
         modulus,
         ballots,
         compared,
@@ -235,6 +254,8 @@ pub extern "C" fn paddockyear_part_two(
 // Part two, mask drawn from the dice and part one as lent.
 #[no_mangle]
 pub extern "C" fn paddockyear_part_two_drawn(
+    numbered: u32,
+    election: u32,
     modulus: u32,
     ballots: u32,
     compared: u32,
@@ -248,13 +269,14 @@ pub extern "C" fn paddockyear_part_two_drawn(
     out: &mut [u8],
 ) -> u32
     ensures { λ r.
-        let p = parameters modulus ballots compared in
+        let p = parameters (formBy (differ numbered 0) election) modulus ballots compared in
         let s = given p (before ids) (before votes) (before numbers) (before permutations) (before keys) in
         let k = partTwoDrawnRefusal s (before dice) (length (before one)) (length (before out)) in
         let two = secondPart s (before dice) (maskFor s (before dice) (before one)) in
         ⌜ (r ≡ k) × (after out ≡ afterwards k (before out) two) ⌝ }
 {
     written_code(comparison::part_two_drawn(
+        form(numbered, election),
         modulus,
         ballots,
         compared,
@@ -272,6 +294,8 @@ pub extern "C" fn paddockyear_part_two_drawn(
 // Part three, sides given.
 #[no_mangle]
 pub extern "C" fn paddockyear_part_three(
+    numbered: u32,
+    election: u32,
     modulus: u32,
     ballots: u32,
     compared: u32,
@@ -286,12 +310,13 @@ pub extern "C" fn paddockyear_part_three(
     out: &mut [u8],
 ) -> u32
     ensures { λ r.
-        let p = parameters modulus ballots compared in
+        let p = parameters (formBy (differ numbered 0) election) modulus ballots compared in
         let s = given p (before ids) (before votes) (before numbers) (before permutations) (before keys) in
         let k = partThreeRefusal s (before dice) mask (before sides) (length (before out)) in
         ⌜ (r ≡ k) × (after out ≡ afterwards k (before out) (thirdPart s (before dice) mask (before sides))) ⌝ }
 {
     written_code(disclosure::part_three(
+        form(numbered, election),
         modulus,
         ballots,
         compared,
@@ -310,6 +335,8 @@ pub extern "C" fn paddockyear_part_three(
 // Part three, sides drawn from the dice and parts one and two as lent.
 #[no_mangle]
 pub extern "C" fn paddockyear_part_three_drawn(
+    numbered: u32,
+    election: u32,
     modulus: u32,
     ballots: u32,
     compared: u32,
@@ -325,13 +352,14 @@ pub extern "C" fn paddockyear_part_three_drawn(
     out: &mut [u8],
 ) -> u32
     ensures { λ r.
-        let p = parameters modulus ballots compared in
+        let p = parameters (formBy (differ numbered 0) election) modulus ballots compared in
         let s = given p (before ids) (before votes) (before numbers) (before permutations) (before keys) in
         let k = partThreeDrawnRefusal s (before dice) mask (length (before one)) (length (before two)) (length (before out)) in
         let three = thirdPart s (before dice) mask (sidesFor s (before dice) (before one) (before two)) in
         ⌜ (r ≡ k) × (after out ≡ afterwards k (before out) three) ⌝ }
 {
     written_code(disclosure::part_three_drawn(
+        form(numbered, election),
         modulus,
         ballots,
         compared,
@@ -351,6 +379,8 @@ pub extern "C" fn paddockyear_part_three_drawn(
 // The mask that part two draws; `mask` is as it was on a refusal.
 #[no_mangle]
 pub extern "C" fn paddockyear_draw_mask(
+    numbered: u32,
+    election: u32,
     modulus: u32,
     ballots: u32,
     compared: u32,
@@ -359,11 +389,11 @@ pub extern "C" fn paddockyear_draw_mask(
     mask: &mut u32,
 ) -> u32
     ensures { λ r.
-        let k = drawRefusal (parameters modulus ballots compared) (before dice) (length (before one)) in
+        let k = drawRefusal (parameters (formBy (differ numbered 0) election) modulus ballots compared) (before dice) (length (before one)) in
         let drawn = drawnMask compared (challenge (before dice) (before one)) in
         ⌜ (r ≡ k) × (now (mask .exit) ≡ choose k drawn (now (mask .entry))) ⌝ }
 {
-    match comparison::draw(modulus, ballots, compared, dice, one) {
+    match comparison::draw(form(numbered, election), modulus, ballots, compared, dice, one) {
         Draw::Refused(k) => k,
         Draw::Mask(drawn) => {
             *mask = drawn;
@@ -389,6 +419,8 @@ fn outcome_code(o: Outcome) -> u32
 pub extern "C" fn paddockyear_election(
     mask_given: u32,
     sides_given: u32,
+    numbered: u32,
+    election: u32,
     modulus: u32,
     ballots: u32,
     compared: u32,
@@ -407,7 +439,7 @@ pub extern "C" fn paddockyear_election(
     joined: &mut [u8],
 ) -> u32
     ensures { λ r.
-        let p = parameters modulus ballots compared in
+        let p = parameters (formBy (differ numbered 0) election) modulus ballots compared in
         let s = given p (before ids) (before votes) (before numbers) (before permutations) (before keys) in
         let byMask = choiceOf (differ «mask_given» 0) mask in
         let bySides = choiceOf (differ «sides_given» 0) (before sides) in
@@ -419,6 +451,7 @@ pub extern "C" fn paddockyear_election(
     outcome_code(election::hold(
         mask_given != 0,
         sides_given != 0,
+        form(numbered, election),
         modulus,
         ballots,
         compared,

@@ -8,6 +8,7 @@ ghost use Rattle.protocol.specs.Tablet.{tabletCommand, tabletRefusal};
 ghost use Rattle.protocol.specs.Answers.{writtenAnswer, answerOf};
 ghost use Rattle.protocol.specs.Inputs.{afterwards};
 ghost use Rattle.tablet.specs.Ready.{CastReady};
+use protocol::Form;
 use protocol::Parameters;
 use protocol::Written;
 
@@ -48,6 +49,7 @@ fn refuse(
 // The ballot command of a vote.
 fn put_command(
     out: &mut [u8],
+    form: Form,
     modulus: u32,
     id: u32,
     vote: u32,
@@ -59,13 +61,14 @@ fn put_command(
     keys: &[u8],
 )
     requires { ⌜ CastReady modulus vote x y u1 u2 u3 (length (now keys)) (length (now out)) ⌝ }
-    ensures { λ _. ⌜ after out ≡ tabletCommand modulus id vote x y u1 u2 u3 (before keys) ⌝ }
+    ensures { λ _. ⌜ after out ≡ tabletCommand form modulus id vote x y u1 u2 u3 (before keys) ⌝ }
 {
     let z = modular::less_two(modulus, vote, x, y);
     let value = [x, y, z];
     let first = [u1, u2, u3];
     let six = shares::split(modulus, value, first);
     let p = Parameters {
+        form,
         modulus,
         ballots: 0,
         compared: 0,
@@ -86,6 +89,7 @@ fn put_receipt(out: &mut [u8], id: u32, command: &[u8])
 
 // Entry: a vote's ballot command and its receipt. All that can be refused is tested before the first byte is written.
 pub fn cast(
+    form: Form,
     modulus: u32,
     id: u32,
     vote: u32,
@@ -101,7 +105,7 @@ pub fn cast(
     ensures { λ r.
         let refused = tabletRefusal modulus vote x y u1 u2 u3 in
         let k = refused (length (before keys)) (length (before command)) (length (before receipt)) in
-        let posted = tabletCommand modulus id vote x y u1 u2 u3 (before keys) in
+        let posted = tabletCommand form modulus id vote x y u1 u2 u3 (before keys) in
         let printed = tablets.receipt id posted in
         ⌜ (writtenAnswer r ≡ answerOf k [])
         × ((after command ≡ afterwards k (before command) posted) × (after receipt ≡ afterwards k (before receipt) printed)) ⌝ }
@@ -121,7 +125,7 @@ pub fn cast(
     if k != 0 {
         return Written::Refused(k);
     }
-    put_command(command, modulus, id, vote, x, y, u1, u2, u3, keys);
+    put_command(command, form, modulus, id, vote, x, y, u1, u2, u3, keys);
     put_receipt(receipt, id, command);
     Written::Done
 }
