@@ -9,7 +9,7 @@ use Rattle.laws.specs.Bytes.{bytes, length-bytes}
 use Rattle.laws.specs.Chunks.{chunks, chunks-even}
 use Rattle.laws.specs.Writing.{Went, go-on, go-same, room}
 
-one-byte : (x : ℕ) → x < 256 → bytes 1 x ≡ x ∷ []
+pub one-byte : (x : ℕ) → x < 256 → bytes 1 x ≡ x ∷ []
 unfolding bytes
 one-byte x h = ap (λ (b : ℕ). b ∷ []) (mod-eq-of-lt h)
 

@@ -11,7 +11,7 @@ returns : tie.Need-returns
 returns c =
     let r = c .before .refuse .ensures in
     let s = c .before .before .before .before .before .args in
-    let written = tabletCommand (s .modulus) (s .id) (s .vote) (s .x) (s .y) (s .u1) (s .u2) (s .u3) (s .keys .now) in
+    let written = tabletCommand (s .form) (s .modulus) (s .id) (s .vote) (s .x) (s .y) (s .u1) (s .u2) (s .u3) (s .keys .now) in
     let at-command = unwritten _ _ (s .command .now) written r (c .if1 .taken) in
     (at-command .0, (at-command .1, unwritten _ _ (s .receipt .now) (receipt (s .id) written) r (c .if1 .taken) .1))
 

@@ -18,8 +18,8 @@ returns : tie.Need-returns
 returns c =
     let s = c .before .before .before .before .before .before .before .before .args in
     whole (c .before .before .put-ballot .ensures .wrote)
-    (ballot-length _ _ _ _ ∙ sym (c .before .before .before .before .before .before .before .before .pre .command-long))
-    ∙ ballot-is (s .modulus) (s .id) (s .vote) (s .x) (s .y) (c .before .before .before .before .before .less-two .result) (s .u1) (s .u2) (s .u3) (c .before .before .before .before .split .result) (s .keys .now)
+    (ballot-length _ _ _ _ _ ∙ sym (c .before .before .before .before .before .before .before .before .pre .command-long))
+    ∙ ballot-is (s .form) (s .modulus) (s .id) (s .vote) (s .x) (s .y) (c .before .before .before .before .before .less-two .result) (s .u1) (s .u2) (s .u3) (c .before .before .before .before .split .result) (s .keys .now)
     (c .before .before .before .before .before .less-two .ensures .0) (c .before .before .before .before .split .ensures)
 
 pub put-command-spec : {M : Type 1} → statement M
