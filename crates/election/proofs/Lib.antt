@@ -1,3 +1,4 @@
 pub mod Refusing
 pub mod Writing
 pub mod Ending
+pub mod Numbered
