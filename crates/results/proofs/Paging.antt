@@ -11,8 +11,9 @@ use Rattle.laws.specs.Tests.{is-atMost, not-atMost}
 use Rattle.laws.specs.Writing.{put, Went}
 use Rattle.protocol.specs.Answers.{answerOf}
 use Rattle.protocol.specs.Terms.{decimal}
+use Rattle.protocol.specs.Record.{parametersOf}
 use Rattle.protocol.specs.Judging.{firstFault, judged}
-use Rattle.protocol.specs.Results.{announcedVotes, inFront, acceptedWord, refusedWord, tooLongWord, tallyLines, pageOf, page}
+use Rattle.protocol.specs.Results.{announcedVotes, inFront, acceptedLines, refusedWord, tooLongWord, tallyLines, pageOf, page}
 use Rattle.protocol.proofs.Faultless.{accepted-nothing}
 
 -- what was written from the start on stands in front
@@ -23,16 +24,16 @@ front {l} {out} {v} {w} {r} h e =
     (g .wrote .is ∙ ap (λ (k : ℕ). w ++ drop k l) (zero-add (length w)), g .to ∙ zero-add (length w))
 
 module _ (r : List ℕ) where
-  page-is : {k : ℕ} → length r ≤ 65536 → numberOf (firstFault true r) ≡ k → pageOf k (announcedVotes r) ≡ page r
+  page-is : {k : ℕ} → length r ≤ 65536 → numberOf (firstFault true r) ≡ k → pageOf k (parametersOf r .form) (announcedVotes r) ≡ page r
   unfolding page
-  page-is h e = rw (is-atMost h) (ap (λ (k : ℕ). pageOf k (announcedVotes r)) (sym e))
+  page-is h e = rw (is-atMost h) (ap (λ (k : ℕ). pageOf k (parametersOf r .form) (announcedVotes r)) (sym e))
 
   module _ {l out : List ℕ} {n : ℕ} where
     pub too-long : 65536 < length r → Went l 0 (tooLongWord ++ (10 ∷ [])) out n → (out ≡ inFront (page r) l) × (n ≡ length (page r))
     unfolding page
     too-long h w = rw (not-atMost h) (front w refl)
 
-    pub accepted : length r ≤ 65536 → firstFault true r ≡ Nothing → Went l 0 ((acceptedWord ++ (10 ∷ [])) ++ tallyLines (announcedVotes r)) out n
+    pub accepted : length r ≤ 65536 → firstFault true r ≡ Nothing → Went l 0 (acceptedLines (parametersOf r .form) ++ tallyLines (announcedVotes r)) out n
         → (out ≡ inFront (page r) l) × (n ≡ length (page r))
     unfolding pageOf numberOf
     accepted h e w = front w (page-is h (ap numberOf e))

@@ -54,7 +54,7 @@ module _ (r : List ℕ) where
   head-stands e = let t = simp rules at e in record { first = t .0; ballots = t .1 }
 
   pub head-whole : headFault ≡ Nothing → firstWidth (parametersOf r) ≤ length r
-  head-whole e = stands-whole false (parametersOf r) r First (head-stands e .first)
+  head-whole e = omega (arith, stands-whole false (parametersOf r) r First (head-stands e .first))
 
   pub ballots-ready : {p : Parameters} {printed : List ℕ} → headFault ≡ Nothing → p ≡ parametersOf r → length printed ≡ 32 → BallotsReady p r printed
   unfolding atBallot
@@ -74,7 +74,7 @@ module _ (r : List ℕ) where
   first-stands e = located-nothing _ _ .0 e
 
   pub first-whole : found false (parametersOf r) r First ≡ Nothing → firstWidth (parametersOf r) ≤ length r
-  first-whole e = stands-whole false (parametersOf r) r First (first-stands e)
+  first-whole e = omega (arith, stands-whole false (parametersOf r) r First (first-stands e))
 
   pub lookup-ready : {p : Parameters} {printed : List ℕ} → found false (parametersOf r) r First ≡ Nothing → p ≡ parametersOf r → length printed ≡ 32 → LookupReady p printed
   lookup-ready e s l = rw s (record { few = limits false r (first-stands e) .few .ballots; long = l })
@@ -96,7 +96,7 @@ module _ (drawn : Bool) (r : List ℕ) (e : firstFault drawn r ≡ Nothing) wher
   stands = faultless-iff drawn r .0 e
 
   pub accepted-whole : firstWidth (parametersOf r) ≤ length r
-  accepted-whole = stands-whole drawn (parametersOf r) r First (stands .first)
+  accepted-whole = omega (arith, stands-whole drawn (parametersOf r) r First (stands .first))
 
   pub accepted-few : parametersOf r .ballots ≤ mostBallots
   accepted-few = limits drawn r (stands .first) .few .ballots

@@ -13,6 +13,10 @@ use Rattle.results.specs.Tallies.{TallyReady}
 abbrev pub refusedMost : ℕ
 refusedMost = 19
 
+-- the line of an election's number: the word, at most ten digits and the line's end
+abbrev pub electionMost : ℕ
+electionMost = 20
+
 -- a line is at most 22 bytes long: two numbers of at most ten digits, a space and the line's end
 abbrev pub lineMost : ℕ
 lineMost = 22

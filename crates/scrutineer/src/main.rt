@@ -1,11 +1,12 @@
 // The scrutineer's program: reads a record from standard input, judges it as drawn and writes the page of document 01.
 ghost use mathlib.Core.Bool.{true};
-ghost use mathlib.Core.List.{[], _∷_, _++_};
+ghost use mathlib.Core.List.{_++_};
 ghost use mathlib.Core.Path.{_≡_};
 ghost use Prim.Native.Nat.{_≤_};
 ghost use lib.ListN.{length};
 ghost use Rattle.laws.specs.Lent.{before, after};
 ghost use Rattle.laws.specs.Writing.{Went};
+ghost use Rattle.protocol.specs.Record.{parametersOf};
 ghost use Rattle.protocol.specs.Judging.{firstFault};
 ghost use Rattle.protocol.specs.Results as definitions;
 ghost use Rattle.scrutineer.specs.Lengths.{pageMost};
@@ -16,19 +17,24 @@ use libc::STDERR_FILENO;
 use libc::STDOUT_FILENO;
 use protocol::MOST_BALLOTS;
 
-// The most bytes that a page may have: the first line, and a line of at most 22 for each ballot.
-const LONGEST_PAGE: usize = 9 + 22 * MOST_BALLOTS;
+// The most bytes that a page may have: the first line, the election's of at most 20, and a line of at most 22 for each ballot.
+const LONGEST_PAGE: usize = 9 + 20 + 22 * MOST_BALLOTS;
 
 // ---- the page
 
 // Writes the page of an accepted record, and answers its length.
 fn put_accepted(bytes: &[u8], out: &mut [u8]) -> usize
     requires { ⌜ (firstFault true (now bytes) ≡ Found.Nothing) × (pageMost ≤ length (now out)) ⌝ }
-    ensures { λ r. let lines = definitions.tallyLines (definitions.announcedVotes (before bytes)) in
-        ⌜ Went (before out) 0 ((definitions.acceptedWord ++ (10 ∷ [])) ++ lines) (after out) r ⌝ }
+    ensures { λ r.
+        let first = definitions.acceptedLines (parametersOf (before bytes) .form) in
+        let lines = definitions.tallyLines (definitions.announcedVotes (before bytes)) in
+        ⌜ Went (before out) 0 (first ++ lines) (after out) r ⌝ }
 {
+    let p = layout::parameters(bytes);
+    let form = p.form;
     let at = wire::copy(out, 0, b"ACCEPTED\n");
-    results::page::put_result(bytes, out, at)
+    let next = results::page::put_election(form, out, at);
+    results::page::put_result(bytes, out, next)
 }
 
 // Writes the page of what was read, and answers its length. What lies behind it is unchanged.
