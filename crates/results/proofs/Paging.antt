@@ -4,16 +4,20 @@ use mathlib.Core.Bool.{true}
 use mathlib.Core.List.{List, [], _∷_, _++_}
 use Prim.Native.Nat.{ℕ, zero, suc, _≤_, _<_}
 use native.Mathlib.Nat.{zero-add}
-use lib.ListN.{length, drop}
+use native.Mathlib.Omega.{arith}
+use lib.ListN.{length, drop, length-append}
 use Rattle.laws.specs.declared.Found.the-variants.{Nothing, Fault}
 use Rattle.laws.specs.Faults.{numberOf, nothing-fault}
 use Rattle.laws.specs.Tests.{is-atMost, not-atMost}
 use Rattle.laws.specs.Writing.{put, Went}
+use Rattle.protocol.specs.declared.Form.{Form}
+use Rattle.protocol.specs.declared.Form.the-variants.{Unnumbered, Numbered}
 use Rattle.protocol.specs.Answers.{answerOf}
 use Rattle.protocol.specs.Terms.{decimal}
 use Rattle.protocol.specs.Record.{parametersOf}
 use Rattle.protocol.specs.Judging.{firstFault, judged}
-use Rattle.protocol.specs.Results.{announcedVotes, inFront, acceptedLines, refusedWord, tooLongWord, tallyLines, pageOf, page}
+use Rattle.protocol.specs.Results.{announcedVotes, inFront, electionWord, electionLine, acceptedLines, refusedWord, tooLongWord, tallyLines, pageOf, page}
+use Rattle.decimals.proofs.Digits.{decimal-length}
 use Rattle.protocol.proofs.Faultless.{accepted-nothing}
 
 -- what was written from the start on stands in front
@@ -22,6 +26,13 @@ unfolding put inFront
 front {l} {out} {v} {w} {r} h e =
     let g : Went l 0 w out r = rw e at h in
     (g .wrote .is ∙ ap (λ (k : ℕ). w ++ drop k l) (zero-add (length w)), g .to ∙ zero-add (length w))
+
+-- the line of an election's number is at most 20 bytes long
+pub election-length : (form : Form) → length (electionLine form) ≤ 20
+unfolding electionLine
+election-length Unnumbered = omega arith
+election-length (Numbered election) =
+    omega (arith, length-append electionWord (decimal election ++ (10 ∷ [])), length-append (decimal election) (10 ∷ []), decimal-length election)
 
 module _ (r : List ℕ) where
   page-is : {k : ℕ} → length r ≤ 65536 → numberOf (firstFault true r) ≡ k → pageOf k (parametersOf r .form) (announcedVotes r) ≡ page r

@@ -6,9 +6,11 @@ use lib.ListN.{length}
 use Rattle.laws.specs.Tests.{equal, atMost, _and_, _or_, pick, choose}
 use Rattle.laws.specs.Faults.{numberOf}
 use Rattle.laws.specs.Chunks.{chunks}
+use Rattle.protocol.specs.declared.Form.{Form}
 use Rattle.protocol.specs.Terms.{item, decimal}
+use Rattle.protocol.specs.Record.{parametersOf}
 use Rattle.protocol.specs.Judging.{firstFault}
-use Rattle.protocol.specs.Results.{announcedVotes, acceptedWord, refusedWord, page}
+use Rattle.protocol.specs.Results.{announcedVotes, acceptedLines, refusedWord, page}
 use Rattle.runoff.specs.Rounds.{start, next, winner, blankVotes, spoiledVotes, runoffRefusal}
 use Rattle.runoff.specs.declared.Standings.{Standings}
 
@@ -90,13 +92,15 @@ module _ (candidates : ℕ) (votes : List ℕ) where
       (headerLine candidates ++ (roundLines candidates start ++ winnerLine (winner candidates votes)))
       ++ (countLine blankWord (blankVotes votes) ++ countLine spoiledWord (spoiledVotes candidates votes))
 
--- of a record that is accepted as drawn: the rounds of its announced votes, or the refusal of the number of candidates
-unfoldable pub countedPage : ℕ → List ℕ → List ℕ
-countedPage candidates votes =
+-- of a record that is accepted as drawn: the number of its election, in the form that has one, and the rounds of its announced votes; or
+-- the refusal of the number of candidates
+unfoldable pub countedPage : ℕ → Form → List ℕ → List ℕ
+countedPage candidates form votes =
     let k = runoffRefusal candidates candidates in
-    choose k ((acceptedWord ++ (10 ∷ [])) ++ runoffLines candidates votes) (refusedWord ++ (decimal k ++ (10 ∷ [])))
+    choose k (acceptedLines form ++ runoffLines candidates votes) (refusedWord ++ (decimal k ++ (10 ∷ [])))
 
 -- where the record is too long or refused, the page of document 01
 unfoldable pub runoffPage : ℕ → List ℕ → List ℕ
 runoffPage candidates r =
-    pick (atMost (length r) 65536 and equal (numberOf (firstFault true r)) 0) (countedPage candidates (announcedVotes r)) (page r)
+    let counted = countedPage candidates (parametersOf r .form) (announcedVotes r) in
+    pick (atMost (length r) 65536 and equal (numberOf (firstFault true r)) 0) counted (page r)

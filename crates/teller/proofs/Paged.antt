@@ -9,10 +9,12 @@ use Rattle.laws.specs.declared.Found.the-variants.{Nothing, Fault}
 use Rattle.laws.specs.Faults.{numberOf, nothing-fault}
 use Rattle.laws.specs.Tests.{equal, atMost, _and_, choose-clear, choose-set, is-equal, not-equal, is-atMost, not-atMost, and-iff, and-stop, and-last-stop}
 use Rattle.laws.specs.Writing.{Went}
+use Rattle.protocol.specs.declared.Form.{Form}
 use Rattle.protocol.specs.Answers.{answerOf}
 use Rattle.protocol.specs.Terms.{decimal}
+use Rattle.protocol.specs.Record.{parametersOf}
 use Rattle.protocol.specs.Judging.{firstFault, judged}
-use Rattle.protocol.specs.Results.{announcedVotes, inFront, acceptedWord, refusedWord, tooLongWord, page}
+use Rattle.protocol.specs.Results.{announcedVotes, inFront, acceptedLines, refusedWord, tooLongWord, page}
 use Rattle.protocol.proofs.Faultless.{accepted-nothing}
 use Rattle.results.proofs.Paging as paging
 use Rattle.runoff.specs.Rounds.{runoffRefusal}
@@ -20,12 +22,12 @@ use Rattle.runoff.specs.Page.{runoffLines, countedPage, runoffPage}
 
 -- ---- of an accepted record
 
-module _ (candidates : ℕ) (votes : List ℕ) {k : ℕ} (is : k ≡ runoffRefusal candidates candidates) where
-  pub counted-refused : k ≢ 0 → refusedWord ++ (decimal k ++ (10 ∷ [])) ≡ countedPage candidates votes
+module _ (candidates : ℕ) (form : Form) (votes : List ℕ) {k : ℕ} (is : k ≡ runoffRefusal candidates candidates) where
+  pub counted-refused : k ≢ 0 → refusedWord ++ (decimal k ++ (10 ∷ [])) ≡ countedPage candidates form votes
   unfolding countedPage
   counted-refused h = rw (← is) (sym (choose-set k _ _ h))
 
-  pub counted-lines : k ≡ 0 → (acceptedWord ++ (10 ∷ [])) ++ runoffLines candidates votes ≡ countedPage candidates votes
+  pub counted-lines : k ≡ 0 → acceptedLines form ++ runoffLines candidates votes ≡ countedPage candidates form votes
   unfolding countedPage
   counted-lines h = sym (choose-clear _ _ _ (sym is ∙ h))
 
@@ -45,7 +47,7 @@ module _ (candidates : ℕ) (r : List ℕ) where
         → (out ≡ inFront (runoffPage candidates r) l) × (n ≡ length (runoffPage candidates r))
     too-long h w = as-page l (paging.too-long r h w) (stands-not (sym (and-stop _ _ (not-atMost h))))
 
-    pub counted : length r ≤ 65536 → firstFault true r ≡ Nothing → Went l 0 (countedPage candidates (announcedVotes r)) out n
+    pub counted : length r ≤ 65536 → firstFault true r ≡ Nothing → Went l 0 (countedPage candidates (parametersOf r .form) (announcedVotes r)) out n
         → (out ≡ inFront (runoffPage candidates r) l) × (n ≡ length (runoffPage candidates r))
     unfolding runoffPage numberOf
     counted h e w =

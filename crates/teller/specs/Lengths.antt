@@ -6,9 +6,9 @@ use Rattle.runoff.specs.Told.{lineMost, mostLines}
 use Rattle.runoff.specs.Rounds.{mostCandidates}
 use Rattle.protocol.specs.declared.Parameters.{Parameters}
 
--- the first line, and the lines of the runoff
+-- the first line, that of an election's number, and the lines of the runoff
 abbrev pub pageMost : ℕ
-pageMost = 9 + mostLines * lineMost
+pageMost = 9 + 20 + mostLines * lineMost
 
 -- a record that stands, with room for its votes and for a page
 pub record VotesRoom (p : Parameters) (r : List ℕ) (candidates votesLong outLong : ℕ) : Type 0 where

@@ -1,15 +1,16 @@
 // The program that counts ranked votes: reads a record from standard input, judges it as drawn, and writes the rounds of the runoff among
 // as many candidates as its argument says.
 ghost use mathlib.Core.Bool.{true};
-ghost use mathlib.Core.List.{[], _∷_, _++_};
+ghost use mathlib.Core.List.{_++_};
 ghost use mathlib.Core.Path.{_≡_};
 ghost use Prim.Native.Nat.{_≤_, min};
 ghost use lib.ListN.{length};
 ghost use Rattle.laws.specs.Lent.{before, after};
 ghost use Rattle.laws.specs.Writing.{Went};
 ghost use Rattle.protocol.specs.Terms.{mostBallots};
+ghost use Rattle.protocol.specs.Record.{parametersOf};
 ghost use Rattle.protocol.specs.Judging.{firstFault};
-ghost use Rattle.protocol.specs.Results.{announcedVotes, acceptedWord, inFront};
+ghost use Rattle.protocol.specs.Results.{announcedVotes, acceptedLines, inFront};
 ghost use Rattle.runoff.specs.Page as definitions;
 ghost use Rattle.teller.specs.Arguments.{saidBy};
 ghost use Rattle.teller.specs.Lengths.{pageMost, VotesRoom};
@@ -21,8 +22,8 @@ use libc::STDOUT_FILENO;
 use protocol::MOST_BALLOTS;
 use protocol::Parameters;
 
-// The most bytes that a page may have: the first line, and 13 lines of at most 144.
-const LONGEST_PAGE: usize = 9 + 13 * 144;
+// The most bytes that a page may have: the first line, the election's of at most 20, and 13 lines of at most 144.
+const LONGEST_PAGE: usize = 9 + 20 + 13 * 144;
 
 // ---- the page
 
@@ -36,11 +37,13 @@ fn put_votes(
 ) -> usize
     requires { ⌜ VotesRoom p (now bytes) candidates (length (now votes)) (length (now out)) ⌝ }
     ensures { λ r. let lines = definitions.runoffLines candidates (announcedVotes (before bytes)) in
-        ⌜ Went (before out) 0 ((acceptedWord ++ (10 ∷ [])) ++ lines) (after out) r ⌝ }
+        ⌜ Went (before out) 0 (acceptedLines (p .form) ++ lines) (after out) r ⌝ }
 {
     results::votes::read_votes(bytes, p, votes);
+    let form = p.form;
     let at = wire::copy(out, 0, b"ACCEPTED\n");
-    runoff::page::put_lines(votes, candidates, out, at)
+    let next = results::page::put_election(form, out, at);
+    runoff::page::put_lines(votes, candidates, out, next)
 }
 
 // A zero for each ballot that a record may have. The contract gives only the length, which lending the array as a slice needs.
@@ -53,7 +56,8 @@ fn numbers() -> [u32; MOST_BALLOTS]
 // Writes the page of an accepted record, or of the refusal of the number of candidates, and answers its length.
 fn put_counted(bytes: &[u8], candidates: usize, out: &mut [u8]) -> usize
     requires { ⌜ (firstFault true (now bytes) ≡ Found.Nothing) × (pageMost ≤ length (now out)) ⌝ }
-    ensures { λ r. ⌜ Went (before out) 0 (definitions.countedPage candidates (announcedVotes (before bytes))) (after out) r ⌝ }
+    ensures { λ r. let page = definitions.countedPage candidates (parametersOf (before bytes) .form) (announcedVotes (before bytes)) in
+        ⌜ Went (before out) 0 page (after out) r ⌝ }
 {
     let k = runoff::refuse(candidates, candidates);
     if k != 0 {
