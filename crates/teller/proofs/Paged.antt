@@ -10,6 +10,7 @@ use Rattle.laws.specs.Faults.{numberOf, nothing-fault}
 use Rattle.laws.specs.Tests.{equal, atMost, _and_, choose-clear, choose-set, is-equal, not-equal, is-atMost, not-atMost, and-iff, and-stop, and-last-stop}
 use Rattle.laws.specs.Writing.{Went}
 use Rattle.protocol.specs.declared.Form.{Form}
+use Rattle.protocol.specs.declared.Parameters.{Parameters}
 use Rattle.protocol.specs.Answers.{answerOf}
 use Rattle.protocol.specs.Terms.{decimal}
 use Rattle.protocol.specs.Record.{parametersOf}
@@ -27,9 +28,14 @@ module _ (candidates : ℕ) (form : Form) (votes : List ℕ) {k : ℕ} (is : k �
   unfolding countedPage
   counted-refused h = rw (← is) (sym (choose-set k _ _ h))
 
-  pub counted-lines : k ≡ 0 → acceptedLines form ++ runoffLines candidates votes ≡ countedPage candidates form votes
+  counted-lines : k ≡ 0 → acceptedLines form ++ runoffLines candidates votes ≡ countedPage candidates form votes
   unfolding countedPage
   counted-lines h = sym (choose-clear _ _ _ (sym is ∙ h))
+
+-- .. whose parameters were read
+pub counted-read : (candidates : ℕ) (r : List ℕ) {k : ℕ} {p : Parameters} → k ≡ runoffRefusal candidates candidates → k ≡ 0 → p ≡ parametersOf r
+    → acceptedLines (p .form) ++ runoffLines candidates (announcedVotes r) ≡ countedPage candidates (parametersOf r .form) (announcedVotes r)
+counted-read candidates r is z e = rw e (counted-lines candidates (parametersOf r .form) (announcedVotes r) is z)
 
 -- ---- of what was read
 

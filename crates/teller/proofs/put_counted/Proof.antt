@@ -7,7 +7,7 @@ use Rattle.laws.specs.Writing.{go-same}
 use Rattle.protocol.specs.Terms.{mostBallots}
 use Rattle.results.proofs.Reaching.{accepted-whole, accepted-few, votes-ready}
 use Rattle.runoff.proofs.Running.{fitting}
-use Rattle.teller.proofs.Paged.{counted-refused, counted-lines}
+use Rattle.teller.proofs.Paged.{counted-refused, counted-read}
 use Rattle.teller.proofs.put_counted.Statement.{statement}
 use Rattle.teller.proofs.put_counted.Tie as tie
 
@@ -15,7 +15,7 @@ returns : tie.Need-returns
 returns c =
     let wrote = c .before .before in
     let branch = wrote .before .before in
-    go-same (wrote .put-refused .ensures) (counted-refused _ _ (branch .before .refuse .ensures) (branch .if1 .taken))
+    go-same (wrote .put-refused .ensures) (counted-refused _ _ _ (branch .before .refuse .ensures) (branch .if1 .taken))
 
 parameters-requires : tie.Need-parameters-requires
 parameters-requires c κs = accepted-whole _ _ (c .before .before .before .before .pre .0)
@@ -44,8 +44,10 @@ put-votes-requires c κs =
 returns-2 : tie.Need-returns-2
 returns-2 c =
     let wrote = c .before .before .before in
-    let branch = wrote .before .before .before .before .before in
-    go-same (wrote .put-votes .ensures) (counted-lines _ _ (branch .before .refuse .ensures) (omega arith))
+    let read = wrote .before .before .before .before in
+    let branch = read .before in
+    go-same (wrote .put-votes .ensures)
+    (counted-read _ _ (branch .before .refuse .ensures) (omega arith) (read .parameters .ensures))
 
 pub put-counted-spec : {M : Type 1} → statement M
 put-counted-spec =
