@@ -14,8 +14,8 @@ ghost use Rattle.protocol.specs.Record.{entryCommand};
 ghost use Rattle.protocol.specs.Inputs.{given, inputsOf, partOneRefusal, afterwards};
 ghost use Rattle.protocol.specs.Servers.{postedBoard, firstPart};
 ghost use Rattle.mixing.specs.Passed.{Passed};
-use protocol::KEYS_WIDTH;
 use protocol::Form;
+use protocol::KEYS_WIDTH;
 use protocol::Parameters;
 use protocol::Written;
 

@@ -22,8 +22,8 @@ ghost use Rattle.protocol.specs.Results.{drawn};
 ghost use Rattle.mixing.specs.Passed.{Passed};
 ghost use Rattle.comparison.specs.Links.{PlacesOf};
 use protocol::Draw;
-use protocol::MOST_BALLOTS;
 use protocol::Form;
+use protocol::MOST_BALLOTS;
 use protocol::Parameters;
 use protocol::Written;
 

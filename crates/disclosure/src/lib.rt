@@ -17,8 +17,8 @@ ghost use Rattle.protocol.specs.Inputs.{given, partThreeRefusal, partThreeDrawn
 ghost use Rattle.protocol.specs.Servers.{thirdPart, sidesFor};
 ghost use Rattle.protocol.specs.Answers.{answerOf, writtenAnswer};
 ghost use Rattle.disclosure.specs.Disclosed.{Drawable, Writable};
-use protocol::MOST_BALLOTS;
 use protocol::Form;
+use protocol::MOST_BALLOTS;
 use protocol::Parameters;
 use protocol::Written;
 

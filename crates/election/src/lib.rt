@@ -11,8 +11,8 @@ ghost use Rattle.protocol.specs.Servers.{secondPart, thirdPart};
 ghost use Rattle.protocol.specs.Election.{choiceOf, maskBy, sidesBy, electionRefusal};
 ghost use Rattle.election.specs.Holding.{outcomeAnswer, lent, buffers, partsOf, Held};
 ghost use Rattle.election.specs.Ready.{SecondReady, ThirdReady};
-use protocol::MOST_BALLOTS;
 use protocol::Form;
+use protocol::MOST_BALLOTS;
 use protocol::Parameters;
 use protocol::Verdict;
 

@@ -120,7 +120,20 @@ pub extern "C" fn paddockyear_tablet(
         let printed = tablets.receipt id posted in
         ⌜ (r ≡ k) × ((after command ≡ afterwards k (before command) posted) × (after receipt ≡ afterwards k (before receipt) printed)) ⌝ }
 {
-    written_code(tablet::cast(form(numbered, election), modulus, id, vote, x, y, u1, u2, u3, keys, command, receipt))
+    written_code(tablet::cast(
+        form(numbered, election),
+        modulus,
+        id,
+        vote,
+        x,
+        y,
+        u1,
+        u2,
+        u3,
+        keys,
+        command,
+        receipt,
+    ))
 }
 
 // A row server's column.
@@ -393,7 +406,14 @@ pub extern "C" fn paddockyear_draw_mask(
         let drawn = drawnMask compared (challenge (before dice) (before one)) in
         ⌜ (r ≡ k) × (now (mask .exit) ≡ choose k drawn (now (mask .entry))) ⌝ }
 {
-    match comparison::draw(form(numbered, election), modulus, ballots, compared, dice, one) {
+    match comparison::draw(
+        form(numbered, election),
+        modulus,
+        ballots,
+        compared,
+        dice,
+        one,
+    ) {
         Draw::Refused(k) => k,
         Draw::Mask(drawn) => {
             *mask = drawn;

@@ -8,13 +8,15 @@ use Rattle.paddockyear.proofs.paddockyear_election.Tie as tie
 returns : tie.Need-returns
 unfolding differ
 returns c =
-    let held = c .before .before .before .before .before .before .before .before .before .hold .ensures in
+    let called = c .before .before .before .before .before .before .before .before .before in
+    let held = rw (called .before .before .before .before .before .form .ensures) at (called .hold .ensures) in
     rw (outcome-answer _ _ _ (held .answers) (held .accepts) (c .outcome-code .ensures)) held
 
 pub paddockyear-election-spec : {M : Type 1} → statement M
 paddockyear-election-spec =
     tie.close
     (tie.spec
+    (λ c κs. search needs)
     (λ c κs. search needs)
     (λ c κs. search needs)
     (λ c. search needs)

@@ -18,8 +18,7 @@ put-result-requires c κs =
     let line = c .before .before .before in
     let word = line .before .before .before .before in
     let read = word .before .before .before in
-    let s = read .before .before .before in
-    (
+    let s = read .before .before .before in (
       s .pre .0,
       omega (
         arith,
