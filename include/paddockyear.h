@@ -18,6 +18,9 @@
  * the announced votes, PADDOCKYEAR_STACK for every other call, with as many ballots and lists as there may be (measured, not proved).
  *
  * TERMS. M is the modulus, n the number of ballots; there are 2m lists, of which m are compared and m opened. In the arguments:
+ *     numbered   the form of the record's first command: 0 for command 01, which names no election; any other value for command 0C, which
+ *                has the election's number. All calls of an election, and its tablets, are told the same
+ *     election   the election's number, any value; with numbered 0 it is not looked at
  *     modulus    M, 2 to 4294967295; every number is below it, and sums and differences are taken modulo M
  *     ballots    n, 1 to 4096
  *     compared   m, 1 to 12: the number of lists that are compared, half of all lists
@@ -117,14 +120,18 @@ enum {
     PADDOCKYEAR_RECEIPT_LENGTH = 32
 };
 
-/* Of the servers' inputs and of the parts they write, for n ballots and m compared lists within their limits. */
+/* Of the servers' inputs and of the parts they write, for n ballots and m compared lists within their limits. A record with an election's
+ * number is PADDOCKYEAR_ELECTION_LENGTH bytes longer, all of them in part one. */
 #define PADDOCKYEAR_NUMBERS_LENGTH(n, m) (5 * (size_t)(n) + 18 * (size_t)(m) * (size_t)(n))
 #define PADDOCKYEAR_PERMUTATIONS_LENGTH(n, m) (6 * (size_t)(m) * (size_t)(n))
 #define PADDOCKYEAR_KEYS_LENGTH(n, m) (192 * (size_t)(n) + 384 * (size_t)(m) * (size_t)(n))
-#define PADDOCKYEAR_PART_ONE_LENGTH(n, m) (8 + 197 * (size_t)(n) + 392 * (size_t)(m) * (size_t)(n))
+#define PADDOCKYEAR_ELECTION_LENGTH(numbered) ((numbered) != 0 ? (size_t)4 : (size_t)0)
+#define PADDOCKYEAR_PART_ONE_LENGTH(numbered, n, m)                                                                                        \
+    (PADDOCKYEAR_ELECTION_LENGTH(numbered) + 8 + 197 * (size_t)(n) + 392 * (size_t)(m) * (size_t)(n))
 #define PADDOCKYEAR_PART_TWO_LENGTH(n, m) (35 + 10 * (size_t)(m) * (size_t)(n))
 #define PADDOCKYEAR_PART_THREE_LENGTH(n, m) (32 + 119 * (size_t)(n) + 332 * (size_t)(m) * (size_t)(n))
-#define PADDOCKYEAR_RECORD_LENGTH(n, m) (75 + 316 * (size_t)(n) + 734 * (size_t)(m) * (size_t)(n))
+#define PADDOCKYEAR_RECORD_LENGTH(numbered, n, m)                                                                                          \
+    (PADDOCKYEAR_ELECTION_LENGTH(numbered) + 75 + 316 * (size_t)(n) + 734 * (size_t)(m) * (size_t)(n))
 
 /* The bytes of stack that a call needs at most. */
 enum { PADDOCKYEAR_STACK = 8192, PADDOCKYEAR_STACK_JUDGING = 196608, PADDOCKYEAR_STACK_WRITING = 262144 };
@@ -150,11 +157,12 @@ void paddockyear_keccak_f(uint64_t lanes[25]);
 /* The ballot command (197 bytes) and the receipt (32 bytes) of a vote with shares x and y and first halves u1, u2, u3. The third share
  * z = vote - x - y and the second halves v1 = x - u1, v2 = y - u2, v3 = z - u3 are worked out. keys are 192 bytes: six keys of 32 bytes, in
  * the order of the six commitments, u1, v1, u2, v2, u3, v3. The receipt is the id, most significant byte first, and the SHA3-224 of the
- * command.
+ * command. Form and number are those of the record that the ballot is for; the bytes do not depend on them today.
  * Answers 0; 3 for the modulus; 18; 10 for vote, x, y, u1, u2, u3. */
-uint32_t paddockyear_tablet(uint32_t modulus, uint32_t id, uint32_t vote, uint32_t x, uint32_t y, uint32_t u1, uint32_t u2, uint32_t u3,
-                            const uint8_t *keys, size_t keys_length, uint8_t *PADDOCKYEAR_RESTRICT command, size_t command_length,
-                            uint8_t *PADDOCKYEAR_RESTRICT receipt, size_t receipt_length);
+uint32_t paddockyear_tablet(uint32_t numbered, uint32_t election, uint32_t modulus, uint32_t id, uint32_t vote, uint32_t x, uint32_t y,
+                            uint32_t u1, uint32_t u2, uint32_t u3, const uint8_t *keys, size_t keys_length,
+                            uint8_t *PADDOCKYEAR_RESTRICT command, size_t command_length, uint8_t *PADDOCKYEAR_RESTRICT receipt,
+                            size_t receipt_length);
 
 /* ---- The mix servers of one column ------------------------------------------------------------------------------------------------ */
 
@@ -200,57 +208,58 @@ uint32_t paddockyear_split(uint32_t modulus, uint32_t n, const uint32_t *numbers
  *                    ballot j, key q: from keys[192j + 32q]
  *                    list l, place i, key q: from keys[192n + 192(nl + i) + 32q]
  *
- * The output of part one is 8 + 197n + 392mn bytes, of part two 35 + 10mn, of part three 32 + 119n + 332mn. Where the mask is drawn, it is
- * drawn from dice and part one as lent (one); where the sides are drawn, from dice and parts one and two as lent (one, two). Lent parts are
- * hashed and not read otherwise.
+ * The output of part one is 8 + 197n + 392mn bytes, and 4 more with an election's number, of part two 35 + 10mn, of part three 32 + 119n +
+ * 332mn. Where the mask is drawn, it is drawn from dice and part one as lent (one); where the sides are drawn, from dice and parts one and
+ * two as lent (one, two). Lent parts are hashed and not read otherwise.
  *
  * The structs and functions further down take the same in fewer arguments. */
 
 /* Answers 0; 3; 18; 5; 10; 19. */
 uint32_t paddockyear_part_one(
-    uint32_t modulus, uint32_t ballots, uint32_t compared, const uint32_t *ids, size_t ids_length, const uint32_t *votes,
-    size_t votes_length, const uint32_t *numbers, size_t numbers_length, const uint16_t *permutations, size_t permutations_length,
-    const uint8_t *keys, size_t keys_length, uint8_t *PADDOCKYEAR_RESTRICT out, size_t out_length);
+    uint32_t numbered, uint32_t election, uint32_t modulus, uint32_t ballots, uint32_t compared, const uint32_t *ids, size_t ids_length,
+    const uint32_t *votes, size_t votes_length, const uint32_t *numbers, size_t numbers_length, const uint16_t *permutations,
+    size_t permutations_length, const uint8_t *keys, size_t keys_length, uint8_t *PADDOCKYEAR_RESTRICT out, size_t out_length);
 
 /* With the mask given. Answers 0; 3; 18; 5; 6; 7; 10; 19. */
 uint32_t paddockyear_part_two(
-    uint32_t modulus, uint32_t ballots, uint32_t compared, const uint32_t *ids, size_t ids_length, const uint32_t *votes,
-    size_t votes_length, const uint32_t *numbers, size_t numbers_length, const uint16_t *permutations, size_t permutations_length,
-    const uint8_t *keys, size_t keys_length, const uint8_t *dice, size_t dice_length, uint32_t mask, uint8_t *PADDOCKYEAR_RESTRICT out,
-    size_t out_length);
+    uint32_t numbered, uint32_t election, uint32_t modulus, uint32_t ballots, uint32_t compared, const uint32_t *ids, size_t ids_length,
+    const uint32_t *votes, size_t votes_length, const uint32_t *numbers, size_t numbers_length, const uint16_t *permutations,
+    size_t permutations_length, const uint8_t *keys, size_t keys_length, const uint8_t *dice, size_t dice_length, uint32_t mask,
+    uint8_t *PADDOCKYEAR_RESTRICT out, size_t out_length);
 
 /* With the mask drawn. Answers 0; 3; 18; 5; 6; 10; 19. */
 uint32_t paddockyear_part_two_drawn(
-    uint32_t modulus, uint32_t ballots, uint32_t compared, const uint32_t *ids, size_t ids_length, const uint32_t *votes,
-    size_t votes_length, const uint32_t *numbers, size_t numbers_length, const uint16_t *permutations, size_t permutations_length,
-    const uint8_t *keys, size_t keys_length, const uint8_t *dice, size_t dice_length, const uint8_t *one, size_t one_length,
-    uint8_t *PADDOCKYEAR_RESTRICT out, size_t out_length);
+    uint32_t numbered, uint32_t election, uint32_t modulus, uint32_t ballots, uint32_t compared, const uint32_t *ids, size_t ids_length,
+    const uint32_t *votes, size_t votes_length, const uint32_t *numbers, size_t numbers_length, const uint16_t *permutations,
+    size_t permutations_length, const uint8_t *keys, size_t keys_length, const uint8_t *dice, size_t dice_length, const uint8_t *one,
+    size_t one_length, uint8_t *PADDOCKYEAR_RESTRICT out, size_t out_length);
 
 /* With the sides given; the mask is that of part two. Answers 0; 3; 18; 5; 6; 7; 10; 11; 19. */
 uint32_t paddockyear_part_three(
-    uint32_t modulus, uint32_t ballots, uint32_t compared, const uint32_t *ids, size_t ids_length, const uint32_t *votes,
-    size_t votes_length, const uint32_t *numbers, size_t numbers_length, const uint16_t *permutations, size_t permutations_length,
-    const uint8_t *keys, size_t keys_length, const uint8_t *dice, size_t dice_length, uint32_t mask, const uint8_t *sides,
-    size_t sides_length, uint8_t *PADDOCKYEAR_RESTRICT out, size_t out_length);
+    uint32_t numbered, uint32_t election, uint32_t modulus, uint32_t ballots, uint32_t compared, const uint32_t *ids, size_t ids_length,
+    const uint32_t *votes, size_t votes_length, const uint32_t *numbers, size_t numbers_length, const uint16_t *permutations,
+    size_t permutations_length, const uint8_t *keys, size_t keys_length, const uint8_t *dice, size_t dice_length, uint32_t mask,
+    const uint8_t *sides, size_t sides_length, uint8_t *PADDOCKYEAR_RESTRICT out, size_t out_length);
 
 /* With the sides drawn; the mask is that of part two. Answers 0; 3; 18; 5; 6; 7; 10; 19. */
 uint32_t paddockyear_part_three_drawn(
-    uint32_t modulus, uint32_t ballots, uint32_t compared, const uint32_t *ids, size_t ids_length, const uint32_t *votes,
-    size_t votes_length, const uint32_t *numbers, size_t numbers_length, const uint16_t *permutations, size_t permutations_length,
-    const uint8_t *keys, size_t keys_length, const uint8_t *dice, size_t dice_length, uint32_t mask, const uint8_t *one, size_t one_length,
-    const uint8_t *two, size_t two_length, uint8_t *PADDOCKYEAR_RESTRICT out, size_t out_length);
+    uint32_t numbered, uint32_t election, uint32_t modulus, uint32_t ballots, uint32_t compared, const uint32_t *ids, size_t ids_length,
+    const uint32_t *votes, size_t votes_length, const uint32_t *numbers, size_t numbers_length, const uint16_t *permutations,
+    size_t permutations_length, const uint8_t *keys, size_t keys_length, const uint8_t *dice, size_t dice_length, uint32_t mask,
+    const uint8_t *one, size_t one_length, const uint8_t *two, size_t two_length, uint8_t *PADDOCKYEAR_RESTRICT out, size_t out_length);
 
 /* The mask that part two draws from the first dice and part one, into *mask: part three wants it. Answers 0; 3; 18; 6. */
-uint32_t paddockyear_draw_mask(uint32_t modulus, uint32_t ballots, uint32_t compared, const uint8_t *dice, size_t dice_length,
-                               const uint8_t *one, size_t one_length, uint32_t *PADDOCKYEAR_RESTRICT mask);
+uint32_t paddockyear_draw_mask(uint32_t numbered, uint32_t election, uint32_t modulus, uint32_t ballots, uint32_t compared,
+                               const uint8_t *dice, size_t dice_length, const uint8_t *one, size_t one_length,
+                               uint32_t *PADDOCKYEAR_RESTRICT mask);
 
 /* The three parts, their join and plain judging of it, in one call, for dice that are known beforehand: a rehearsal, or a test. The mask is
  * drawn where mask_given is 0, the sides are drawn where sides_given is 0; what is lent in the place of what is drawn is not looked at.
  * Answers 0: all four buffers are written, and the record in joined is accepted (as drawn, too, where both are drawn). Else 3; 18, for
  * every slice, that of joined too; 5; 6; 7; 10; 11; 19. */
 uint32_t paddockyear_election(
-    uint32_t mask_given, uint32_t sides_given, uint32_t modulus, uint32_t ballots, uint32_t compared, const uint32_t *ids,
-    size_t ids_length, const uint32_t *votes, size_t votes_length, const uint32_t *numbers, size_t numbers_length,
+    uint32_t mask_given, uint32_t sides_given, uint32_t numbered, uint32_t election, uint32_t modulus, uint32_t ballots, uint32_t compared,
+    const uint32_t *ids, size_t ids_length, const uint32_t *votes, size_t votes_length, const uint32_t *numbers, size_t numbers_length,
     const uint16_t *permutations, size_t permutations_length, const uint8_t *keys, size_t keys_length, const uint8_t *first_dice,
     size_t first_dice_length, uint32_t mask, const uint8_t *second_dice, size_t second_dice_length, const uint8_t *sides,
     size_t sides_length, uint8_t *PADDOCKYEAR_RESTRICT one, size_t one_length, uint8_t *PADDOCKYEAR_RESTRICT two, size_t two_length,
@@ -260,7 +269,7 @@ uint32_t paddockyear_election(
 
 /* What the servers are given, in the order described above. */
 struct paddockyear_inputs {
-    uint32_t modulus, ballots, compared;
+    uint32_t numbered, election, modulus, ballots, compared;
     const uint32_t *ids;
     size_t ids_length;
     const uint32_t *votes;
@@ -299,61 +308,64 @@ struct paddockyear_parts {
 
 /* paddockyear_part_one into parts->one. */
 static inline uint32_t paddockyear_write_one(const struct paddockyear_inputs *in, const struct paddockyear_parts *parts) {
-    return paddockyear_part_one(in->modulus, in->ballots, in->compared, in->ids, in->ids_length, in->votes, in->votes_length, in->numbers,
-                                in->numbers_length, in->permutations, in->permutations_length, in->keys, in->keys_length, parts->one,
-                                parts->one_length);
+    return paddockyear_part_one(in->numbered, in->election, in->modulus, in->ballots, in->compared, in->ids, in->ids_length, in->votes,
+                                in->votes_length, in->numbers, in->numbers_length, in->permutations, in->permutations_length, in->keys,
+                                in->keys_length, parts->one, parts->one_length);
 }
 
 /* paddockyear_part_two by the first dice and throws->mask, into parts->two. */
 static inline uint32_t paddockyear_write_two(const struct paddockyear_inputs *in, const struct paddockyear_throws *throws,
                                              const struct paddockyear_parts *parts) {
-    return paddockyear_part_two(in->modulus, in->ballots, in->compared, in->ids, in->ids_length, in->votes, in->votes_length, in->numbers,
-                                in->numbers_length, in->permutations, in->permutations_length, in->keys, in->keys_length,
-                                throws->first_dice, throws->first_dice_length, throws->mask, parts->two, parts->two_length);
+    return paddockyear_part_two(in->numbered, in->election, in->modulus, in->ballots, in->compared, in->ids, in->ids_length, in->votes,
+                                in->votes_length, in->numbers, in->numbers_length, in->permutations, in->permutations_length, in->keys,
+                                in->keys_length, throws->first_dice, throws->first_dice_length, throws->mask, parts->two,
+                                parts->two_length);
 }
 
 /* paddockyear_part_two_drawn by the first dice and parts->one, into parts->two. */
 static inline uint32_t paddockyear_write_two_drawn(const struct paddockyear_inputs *in, const struct paddockyear_throws *throws,
                                                    const struct paddockyear_parts *parts) {
-    return paddockyear_part_two_drawn(in->modulus, in->ballots, in->compared, in->ids, in->ids_length, in->votes, in->votes_length,
-                                      in->numbers, in->numbers_length, in->permutations, in->permutations_length, in->keys, in->keys_length,
-                                      throws->first_dice, throws->first_dice_length, parts->one, parts->one_length, parts->two,
-                                      parts->two_length);
+    return paddockyear_part_two_drawn(in->numbered, in->election, in->modulus, in->ballots, in->compared, in->ids, in->ids_length,
+                                      in->votes, in->votes_length, in->numbers, in->numbers_length, in->permutations,
+                                      in->permutations_length, in->keys, in->keys_length, throws->first_dice, throws->first_dice_length,
+                                      parts->one, parts->one_length, parts->two, parts->two_length);
 }
 
 /* paddockyear_draw_mask by the first dice and parts->one, into *mask, which may be throws->mask. */
 static inline uint32_t paddockyear_drawn_mask(const struct paddockyear_inputs *in, const struct paddockyear_throws *throws,
                                               const struct paddockyear_parts *parts, uint32_t *mask) {
-    return paddockyear_draw_mask(in->modulus, in->ballots, in->compared, throws->first_dice, throws->first_dice_length, parts->one,
-                                 parts->one_length, mask);
+    return paddockyear_draw_mask(in->numbered, in->election, in->modulus, in->ballots, in->compared, throws->first_dice,
+                                 throws->first_dice_length, parts->one, parts->one_length, mask);
 }
 
 /* paddockyear_part_three by the second dice, throws->mask and throws->sides, into parts->three. */
 static inline uint32_t paddockyear_write_three(const struct paddockyear_inputs *in, const struct paddockyear_throws *throws,
                                                const struct paddockyear_parts *parts) {
-    return paddockyear_part_three(in->modulus, in->ballots, in->compared, in->ids, in->ids_length, in->votes, in->votes_length, in->numbers,
-                                  in->numbers_length, in->permutations, in->permutations_length, in->keys, in->keys_length,
-                                  throws->second_dice, throws->second_dice_length, throws->mask, throws->sides, throws->sides_length,
-                                  parts->three, parts->three_length);
+    return paddockyear_part_three(in->numbered, in->election, in->modulus, in->ballots, in->compared, in->ids, in->ids_length, in->votes,
+                                  in->votes_length, in->numbers, in->numbers_length, in->permutations, in->permutations_length, in->keys,
+                                  in->keys_length, throws->second_dice, throws->second_dice_length, throws->mask, throws->sides,
+                                  throws->sides_length, parts->three, parts->three_length);
 }
 
 /* paddockyear_part_three_drawn by the second dice, throws->mask, parts->one and parts->two, into parts->three. */
 static inline uint32_t paddockyear_write_three_drawn(const struct paddockyear_inputs *in, const struct paddockyear_throws *throws,
                                                      const struct paddockyear_parts *parts) {
-    return paddockyear_part_three_drawn(in->modulus, in->ballots, in->compared, in->ids, in->ids_length, in->votes, in->votes_length,
-                                        in->numbers, in->numbers_length, in->permutations, in->permutations_length, in->keys,
-                                        in->keys_length, throws->second_dice, throws->second_dice_length, throws->mask, parts->one,
-                                        parts->one_length, parts->two, parts->two_length, parts->three, parts->three_length);
+    return paddockyear_part_three_drawn(in->numbered, in->election, in->modulus, in->ballots, in->compared, in->ids, in->ids_length,
+                                        in->votes, in->votes_length, in->numbers, in->numbers_length, in->permutations,
+                                        in->permutations_length, in->keys, in->keys_length, throws->second_dice, throws->second_dice_length,
+                                        throws->mask, parts->one, parts->one_length, parts->two, parts->two_length, parts->three,
+                                        parts->three_length);
 }
 
 /* paddockyear_election. */
 static inline uint32_t paddockyear_hold(const struct paddockyear_inputs *in, const struct paddockyear_throws *throws,
                                         const struct paddockyear_parts *parts) {
-    return paddockyear_election(throws->mask_given, throws->sides_given, in->modulus, in->ballots, in->compared, in->ids, in->ids_length,
-                                in->votes, in->votes_length, in->numbers, in->numbers_length, in->permutations, in->permutations_length,
-                                in->keys, in->keys_length, throws->first_dice, throws->first_dice_length, throws->mask, throws->second_dice,
-                                throws->second_dice_length, throws->sides, throws->sides_length, parts->one, parts->one_length, parts->two,
-                                parts->two_length, parts->three, parts->three_length, parts->joined, parts->joined_length);
+    return paddockyear_election(throws->mask_given, throws->sides_given, in->numbered, in->election, in->modulus, in->ballots, in->compared,
+                                in->ids, in->ids_length, in->votes, in->votes_length, in->numbers, in->numbers_length, in->permutations,
+                                in->permutations_length, in->keys, in->keys_length, throws->first_dice, throws->first_dice_length,
+                                throws->mask, throws->second_dice, throws->second_dice_length, throws->sides, throws->sides_length,
+                                parts->one, parts->one_length, parts->two, parts->two_length, parts->three, parts->three_length,
+                                parts->joined, parts->joined_length);
 }
 
 /* ---- The verifier ----------------------------------------------------------------------------------------------------------------- */
@@ -379,7 +391,8 @@ uint32_t paddockyear_check_receipt(const uint8_t *bytes, size_t length, const ui
 uint32_t paddockyear_look_up(const uint8_t *bytes, size_t length, const uint8_t *printed, size_t printed_length);
 
 /* The announced votes of an accepted record, one for each ballot, smallest first, into out of n elements; n is in the record's bytes 5 and
- * 6, most significant first. Answers 0; else the number of plain judging; else 18 for the length of out. */
+ * 6, most significant first, or in bytes 9 and 10 where byte 0 is 0C (hexadecimal). Answers 0; else the number of plain judging; else 18
+ * for the length of out. */
 uint32_t paddockyear_announced_votes(const uint8_t *bytes, size_t length, uint32_t *PADDOCKYEAR_RESTRICT out, size_t out_length);
 
 /* The tally of votes that do not fall: for each distinct vote, rising, values[i] is the vote and counts[i] how often it is there. *pairs is
