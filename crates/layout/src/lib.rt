@@ -40,10 +40,10 @@ pub fn due_form(bytes: &[u8]) -> Form
     if bytes.len() == 0 {
         return Form::Unnumbered;
     }
-    if bytes[0] == 0x0C {
-        return Form::Numbered(0);
+    if bytes[0] != 0x0C {
+        return Form::Unnumbered;
     }
-    Form::Unnumbered
+    Form::Numbered(0)
 }
 
 // The parameters that the first command says.
@@ -62,7 +62,7 @@ pub fn parameters(bytes: &[u8]) -> Parameters
 }
 
 // The first command's width.
-pub fn first_width(p: Parameters) -> usize
+fn first_width(p: Parameters) -> usize
     ensures { λ r. ⌜ (r ≡ places.firstWidth p) × (r ≤ 12) ⌝ }
 {
     let form = p.form;

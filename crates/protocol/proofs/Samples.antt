@@ -14,7 +14,7 @@ use Rattle.laws.specs.Tables.{tabulate}
 use Rattle.laws.specs.Modular.{plus, minus}
 use Rattle.laws.specs.Permuting.{permutes}
 use Rattle.protocol.specs.declared.Form.the-variants.{Unnumbered, Numbered}
-use Rattle.protocol.specs.Terms.{parameters, item, allBelow, inLimits, modulusInLimits, ballotsInLimits, listsInLimits, opening, digits, decimal}
+use Rattle.protocol.specs.Terms.{parameters, formBy, item, allBelow, inLimits, modulusInLimits, ballotsInLimits, listsInLimits, opening, digits, decimal}
 use Rattle.protocol.specs.Tablet.{oneOfThree, share, slot, ballotCommand, receipt, tabletRefusal}
 use Rattle.protocol.specs.Columns.{row, thirdOffset, source, rowServer, thirdOffsets, secondHalves, isPermutation, rowRefusal, pairRefusal}
 use Rattle.protocol.specs.Layout.{firstCode, numberWidth, atFirstDice, atSecondDice, atBallotHalf, atVote, atEnd, recordLength}
@@ -88,10 +88,10 @@ own =
     -- a key, then a number, its most significant byte first
     ∷ record { computed = opening (9 ∷ 8 ∷ []) 16909060; expected = 9 ∷ 8 ∷ 1 ∷ 2 ∷ 3 ∷ 4 ∷ [] }
     -- operands in their order and widths
-    ∷ record { computed = firstCommand (parameters Unnumbered 16909060 258 3); expected = 1 ∷ 1 ∷ 2 ∷ 3 ∷ 4 ∷ 1 ∷ 2 ∷ 3 ∷ [] }
+    ∷ record { computed = firstCommand (parameters (formBy false 84281096) 16909060 258 3); expected = 1 ∷ 1 ∷ 2 ∷ 3 ∷ 4 ∷ 1 ∷ 2 ∷ 3 ∷ [] }
     -- "election number 4, any value, then M, n, m as in 01"
     ∷ record {
-      computed = firstCommand (parameters (Numbered 84281096) 16909060 258 3);
+      computed = firstCommand (parameters (formBy true 84281096) 16909060 258 3);
       expected = 12 ∷ 5 ∷ 6 ∷ 7 ∷ 8 ∷ 1 ∷ 2 ∷ 3 ∷ 4 ∷ 1 ∷ 2 ∷ 3 ∷ [];
     }
     ∷ record { computed = ballotCommand 16909060 (λ q. q ∷ []); expected = 2 ∷ 1 ∷ 2 ∷ 3 ∷ 4 ∷ 0 ∷ 1 ∷ 2 ∷ 3 ∷ 4 ∷ 5 ∷ [] }
@@ -233,5 +233,5 @@ pub samples : List Row
 samples = starred ++ (own ++ (placed ++ refusals))
 
 pub samples-hold : map (λ (r : Row). r .computed) samples ≡ map (λ (r : Row). r .expected) samples
-unfolding samples starred firstCode numberWidth formOf formBytes electionLine acceptedLines own indices lent keysWith placed slices refusals six through ones equal differ below atMost _and_ _or_ every choose rule number bytes tabulate plus minus permutes inLimits modulusInLimits ballotsInLimits listsInLimits opening digits decimal share slot ballotCommand row thirdOffset source rowServer thirdOffsets secondHalves atFirstDice atSecondDice atBallotHalf atVote atEnd firstCommand entryCommand firstDiceCommand linkCommand ballotHalfCommand listHalfCommand voteCommand hexDigit hexDigits drawFrom rightShape agrees fresh distinctVotes voteCounts tallyLine tallyLines pageOf secondDiceCommand fullCommand receipt ballotNumbers listNumbers listPermutations ballotKeys entryKeys inputsOf tabletRefusal rowRefusal pairRefusal allBelow isPermutation receiptRefusal numberOf _then_ first located found ballotFaults fault parametersOf tallyRefusal refusal dueLengths idsRise allPermutations drawRefusal fairDice fairDie
+unfolding samples starred firstCode numberWidth formBy formOf formBytes electionLine acceptedLines own indices lent keysWith placed slices refusals six through ones equal differ below atMost _and_ _or_ every choose rule number bytes tabulate plus minus permutes inLimits modulusInLimits ballotsInLimits listsInLimits opening digits decimal share slot ballotCommand row thirdOffset source rowServer thirdOffsets secondHalves atFirstDice atSecondDice atBallotHalf atVote atEnd firstCommand entryCommand firstDiceCommand linkCommand ballotHalfCommand listHalfCommand voteCommand hexDigit hexDigits drawFrom rightShape agrees fresh distinctVotes voteCounts tallyLine tallyLines pageOf secondDiceCommand fullCommand receipt ballotNumbers listNumbers listPermutations ballotKeys entryKeys inputsOf tabletRefusal rowRefusal pairRefusal allBelow isPermutation receiptRefusal numberOf _then_ first located found ballotFaults fault parametersOf tallyRefusal refusal dueLengths idsRise allPermutations drawRefusal fairDice fairDie
 samples-hold = refl

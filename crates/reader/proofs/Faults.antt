@@ -12,11 +12,12 @@ use types.Run.{OneOf, miss}
 use denote.Enum.Declared.{tagOf}
 use Rattle.laws.specs.Tests.{pick, is-below, not-below, is-equal, not-equal, is-atMost, not-atMost}
 use Rattle.laws.specs.Faults.{rule-go, rule-stop}
+use Rattle.protocol.specs.declared.Form.the-variants.{Unnumbered, Numbered}
 use Rattle.protocol.specs.declared.Parameters.{Parameters}
 use Rattle.protocol.specs.declared.Due.{Due}
 use Rattle.protocol.specs.declared.Due.the-variants.{First, Ballot, Entry, FirstDice, Link, SecondDice, BallotHalf, ListHalf, Vote, FullOpening, End}
 use Rattle.protocol.specs.Terms.{item}
-use Rattle.protocol.specs.Layout.{firstCode, firstWidth, code, width}
+use Rattle.protocol.specs.Layout.{firstCode, numberWidth, firstWidth, code, width}
 use Rattle.protocol.specs.Record.{formOf, parametersOf}
 use Rattle.protocol.specs.Rules.{placeOf, rules, fault}
 use Rattle.protocol.proofs.Due.{the-type}
@@ -110,6 +111,14 @@ module _ (p : Parameters) (r : List ℕ) {at : ℕ} (told : (at ≡ 0) × (first
 
   pub numbered-due : item r at ≡ 12 → item r at ≡ code p First
   numbered-due e = e ∙ sym (told .1 ∙ code-numbered r (at-start e))
+
+  pub unnumbered-width : item r at ≡ 1 → numberWidth (p .form) ≡ 0
+  unfolding firstCode numberWidth
+  unnumbered-width e = code-width (p .form) Unnumbered (told .1 ∙ code-unnumbered r (λ z. omega (arith, z, at-start e)))
+
+  pub numbered-width : item r at ≡ 12 → numberWidth (p .form) ≡ 4
+  unfolding firstCode numberWidth
+  numbered-width e = code-width (p .form) (Numbered 0) (told .1 ∙ code-numbered r (at-start e))
 
   pub first-whole : at + firstWidth p ≤ length r → firstWidth (parametersOf r) ≤ length r
   unfolding parametersOf

@@ -30,7 +30,7 @@ fn command(bytes: &[u8], at: usize, due: Due, c: Context, text: &[u8], marks: &[
     match b {
         0x01 => match due {
             Due::First => {
-                if left < layout::first_width(p) {
+                if left < 8 {
                     return 1;
                 }
                 rules::first_rules(bytes)
@@ -124,12 +124,12 @@ fn command(bytes: &[u8], at: usize, due: Due, c: Context, text: &[u8], marks: &[
         },
         0x0C => match due {
             Due::First => {
-                if left < layout::first_width(p) {
+                if left < 12 {
                     return 1;
                 }
                 rules::first_rules(bytes)
             }
-            _ => 2,
+            _ => 2, // 0C stands first or nowhere
         },
         0x00 | 0x0D..=0xFF => 2,
     }

@@ -13,11 +13,11 @@ returns c = sym (code-none _ (c .if1 .taken))
 
 returns-2 : tie.Need-returns-2
 unfolding firstCode
-returns-2 c = sym (code-numbered _ (c .if2 .taken))
+returns-2 c = sym (code-unnumbered _ (c .if2 .taken))
 
 returns-3 : tie.Need-returns-3
 unfolding firstCode
-returns-3 c = sym (code-unnumbered _ (c .if2 .left))
+returns-3 c = sym (code-numbered _ (c .if2 .left))
 
 pub due-form-spec : {M : Type 1} → statement M
 due-form-spec = tie.close (tie.spec returns (λ c. search needs) returns-2 returns-3)

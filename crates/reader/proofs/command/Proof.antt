@@ -1,7 +1,7 @@
 use mathlib.Core.Path.{refl}
 use native.Mathlib.Omega.{arith}
 use borrow.Author.Needs.{needs}
-use Rattle.reader.proofs.Faults.{gone, cut, whole, other-due, later-due, unknown, unnumbered-due, numbered-due, first-whole}
+use Rattle.reader.proofs.Faults.{gone, cut, whole, other-due, later-due, unknown, unnumbered-due, numbered-due, unnumbered-width, numbered-width, first-whole}
 use Rattle.reader.proofs.Known.{told}
 use Rattle.reader.proofs.command.Statement.{statement}
 use Rattle.reader.proofs.command.Tie as tie
@@ -10,7 +10,12 @@ returns : tie.Need-returns
 returns c = gone _ _ _ _ (c .before .before .before .before .pre .0) (omega arith)
 
 returns-2 : tie.Need-returns-2
-returns-2 c = cut _ _ _ _ (c .before .before .before .before .before .before .before .before .before .before .before .pre .0) (omega arith) (c .before .before .enum-told .given .1) (unnumbered-due (c .before .before .before .before .before .before .before .before .before .before .before .args .c .parameters) _ (told (c .before .before .before .before .before .before .before .before .before .before .before .args .c .parameters) _ _ _ _ (c .before .before .enum-told .given .1) (c .before .before .before .before .before .before .before .before .before .before .before .pre)) (c .before .before .before .before .match .keys1)) (omega arith)
+returns-2 c =
+    let s = c .before .before .before .before .before .before .before .before .before .before in
+    let is = c .before .enum-told .given .1 in
+    let t = told (s .args .c .parameters) _ _ _ _ is (s .pre) in
+    let byte = c .before .before .before .match .keys1 in
+    cut _ _ _ _ (s .pre .0) (omega arith) is (unnumbered-due (s .args .c .parameters) _ t byte) (omega (arith, unnumbered-width (s .args .c .parameters) _ t byte))
 
 returns-3 : tie.Need-returns-3
 returns-3 c = cut _ _ _ _ (c .before .before .before .before .before .before .before .before .before .before .before .pre .0) (omega arith) (c .before .before .due .given .1) (c .before .before .before .before .match .keys2) (omega arith)
@@ -67,7 +72,12 @@ full-rules-requires : tie.Need-full-rules-requires
 full-rules-requires c κs = let k = told _ _ _ _ _ (c .before .before .due7 .given .1) (c .before .before .before .before .before .before .before .before .before .before .before .pre) in record { here = k .0; whole = omega arith; known = k .1 }
 
 returns-13 : tie.Need-returns-13
-returns-13 c = whole _ _ _ _ (c .before .before .before .before .before .before .before .before .before .before .before .before .pre .0) (omega arith) (c .before .before .before .enum-told .given .1) (unnumbered-due (c .before .before .before .before .before .before .before .before .before .before .before .before .args .c .parameters) _ (told (c .before .before .before .before .before .before .before .before .before .before .before .before .args .c .parameters) _ _ _ _ (c .before .before .before .enum-told .given .1) (c .before .before .before .before .before .before .before .before .before .before .before .before .pre)) (c .before .before .before .before .before .match .keys1)) (omega arith) (c .first-rules .ensures)
+returns-13 c =
+    let s = c .before .before .before .before .before .before .before .before .before .before .before in
+    let is = c .before .before .enum-told .given .1 in
+    let t = told (s .args .c .parameters) _ _ _ _ is (s .pre) in
+    let byte = c .before .before .before .before .match .keys1 in
+    whole _ _ _ _ (s .pre .0) (omega arith) is (unnumbered-due (s .args .c .parameters) _ t byte) (omega (arith, unnumbered-width (s .args .c .parameters) _ t byte)) (c .first-rules .ensures)
 
 returns-14 : tie.Need-returns-14
 returns-14 c = other-due _ _ _ _ (c .before .before .before .before .before .before .before .before .pre .0) (omega arith) (c .before .match .keys1) (omega arith) (c .match2 .keys2) tt
@@ -141,16 +151,36 @@ returns-38 c =
     unknown _ _ _ _ (c .before .before .before .before .before .before .before .pre .0) (omega arith) (n .0 .0 .0 .0 .0 .0 .0 .0 .0 .0 .0 .0 .1, n .0 .0 .0 .0 .0 .0 .0 .0 .0 .0 .0 .1, n .0 .0 .0 .0 .0 .0 .0 .0 .0 .0 .1, n .0 .0 .0 .0 .0 .0 .0 .0 .0 .1, n .0 .0 .0 .0 .0 .0 .0 .0 .1, n .0 .0 .0 .0 .0 .0 .0 .1, n .0 .0 .0 .0 .0 .0 .1, n .0 .0 .0 .0 .0 .1, n .0 .0 .0 .0 .1, n .0 .0 .0 .1, n .0 .0 .1, n .0 .1)
 
 first-rules-requires : tie.Need-first-rules-requires
-first-rules-requires c κs = first-whole (c .before .before .before .before .before .before .before .before .before .before .before .args .c .parameters) _ (told (c .before .before .before .before .before .before .before .before .before .before .before .args .c .parameters) _ _ _ _ (c .before .before .enum-told .given .1) (c .before .before .before .before .before .before .before .before .before .before .before .pre)) (omega arith)
+first-rules-requires c κs =
+    let s = c .before .before .before .before .before .before .before .before .before .before in
+    let is = c .before .enum-told .given .1 in
+    let t = told (s .args .c .parameters) _ _ _ _ is (s .pre) in
+    let byte = c .before .before .before .match .keys1 in
+    first-whole (s .args .c .parameters) _ t (omega (arith, unnumbered-width (s .args .c .parameters) _ t byte))
 
 returns-12 : tie.Need-returns-12
-returns-12 c = cut _ _ _ _ (c .before .before .before .before .before .before .before .before .before .before .before .pre .0) (omega arith) (c .before .before .enum-told5 .given .1) (numbered-due (c .before .before .before .before .before .before .before .before .before .before .before .args .c .parameters) _ (told (c .before .before .before .before .before .before .before .before .before .before .before .args .c .parameters) _ _ _ _ (c .before .before .enum-told5 .given .1) (c .before .before .before .before .before .before .before .before .before .before .before .pre)) (c .before .before .before .before .match .keys12)) (omega arith)
+returns-12 c =
+    let s = c .before .before .before .before .before .before .before .before .before .before in
+    let is = c .before .enum-told5 .given .1 in
+    let t = told (s .args .c .parameters) _ _ _ _ is (s .pre) in
+    let byte = c .before .before .before .match .keys12 in
+    cut _ _ _ _ (s .pre .0) (omega arith) is (numbered-due (s .args .c .parameters) _ t byte) (omega (arith, numbered-width (s .args .c .parameters) _ t byte))
 
 first-rules-requires-2 : tie.Need-first-rules-requires-2
-first-rules-requires-2 c κs = first-whole (c .before .before .before .before .before .before .before .before .before .before .before .args .c .parameters) _ (told (c .before .before .before .before .before .before .before .before .before .before .before .args .c .parameters) _ _ _ _ (c .before .before .enum-told5 .given .1) (c .before .before .before .before .before .before .before .before .before .before .before .pre)) (omega arith)
+first-rules-requires-2 c κs =
+    let s = c .before .before .before .before .before .before .before .before .before .before in
+    let is = c .before .enum-told5 .given .1 in
+    let t = told (s .args .c .parameters) _ _ _ _ is (s .pre) in
+    let byte = c .before .before .before .match .keys12 in
+    first-whole (s .args .c .parameters) _ t (omega (arith, numbered-width (s .args .c .parameters) _ t byte))
 
 returns-35 : tie.Need-returns-35
-returns-35 c = whole _ _ _ _ (c .before .before .before .before .before .before .before .before .before .before .before .before .pre .0) (omega arith) (c .before .before .before .enum-told5 .given .1) (numbered-due (c .before .before .before .before .before .before .before .before .before .before .before .before .args .c .parameters) _ (told (c .before .before .before .before .before .before .before .before .before .before .before .before .args .c .parameters) _ _ _ _ (c .before .before .before .enum-told5 .given .1) (c .before .before .before .before .before .before .before .before .before .before .before .before .pre)) (c .before .before .before .before .before .match .keys12)) (omega arith) (c .first-rules2 .ensures)
+returns-35 c =
+    let s = c .before .before .before .before .before .before .before .before .before .before .before in
+    let is = c .before .before .enum-told5 .given .1 in
+    let t = told (s .args .c .parameters) _ _ _ _ is (s .pre) in
+    let byte = c .before .before .before .before .match .keys12 in
+    whole _ _ _ _ (s .pre .0) (omega arith) is (numbered-due (s .args .c .parameters) _ t byte) (omega (arith, numbered-width (s .args .c .parameters) _ t byte)) (c .first-rules2 .ensures)
 
 returns-36 : tie.Need-returns-36
 returns-36 c = later-due _ _ _ _ (c .before .before .before .before .before .before .before .before .pre .0) (omega arith) (c .before .match .keys12) (c .match13 .keys2)
@@ -163,7 +193,6 @@ command-spec =
     (λ c. search needs)
     (λ c. search needs)
     (λ c. search needs)
-    (λ c κs. search needs)
     returns-2
     first-rules-requires
     (λ c. search needs)
@@ -195,7 +224,6 @@ command-spec =
     full-rules-requires
     (λ c. search needs)
     (λ c. search needs)
-    (λ c κs. search needs)
     returns-12
     first-rules-requires-2
     returns-13
