@@ -1,5 +1,5 @@
 -- The program's page, the announced votes' refusal and the draw of a mask, joined to judging and to the parts that the servers write.
-use mathlib.Core.Path.{_≡_, refl}
+use mathlib.Core.Path.{_≡_, refl, ap, _∙_}
 use mathlib.Core.Logic.{_↔_, _≢_}
 use mathlib.Core.Bool.{Bool, true, false}
 use mathlib.Core.List.{List, [], _∷_, _++_}
@@ -7,20 +7,22 @@ use Prim.Native.Nat.{ℕ, zero, suc, _≤_, _<_}
 use native.Mathlib.Omega.{arith}
 use lib.ListN.{length}
 use Rattle.laws.specs.Tests.{atMost, equal, choose, is-atMost, not-atMost, equal-iff}
+use Rattle.laws.specs.Bytes.{number}
 use Rattle.laws.specs.Faults.{rule, rule-kept, rules, numberOf}
 use Rattle.protocol.specs.declared.Form.{Form}
 use Rattle.protocol.specs.Answers.{done, refused, answerOf, accepted}
-use Rattle.protocol.specs.Terms.{modulusInLimits, ballotsInLimits, listsInLimits, inLimits, decimal}
+use Rattle.protocol.specs.Terms.{modulusInLimits, ballotsInLimits, listsInLimits, inLimits, item, decimal}
 use Rattle.protocol.specs.Layout.{partOneLength}
 use Rattle.protocol.specs.Record.{parametersOf}
 use Rattle.protocol.specs.Judging.{firstFault, judged}
 use Rattle.protocol.specs.Inputs.{Slices, inputsOf, refusal, partTwoDrawnRefusal}
 use Rattle.protocol.specs.Servers.{postedBoard, firstPart, maskFor}
-use Rattle.protocol.specs.Results.{announcedVotes, announcedRefusal, acceptedLines, refusedWord, tooLongWord, tallyLines, pageOf, page, drawRefusal, drawn}
+use Rattle.protocol.specs.Results.{announcedVotes, announcedRefusal, acceptedWord, electionWord, electionLine, acceptedLines, refusedWord, tooLongWord, tallyLines, pageOf, page, drawRefusal, drawn}
 use Rattle.protocol.proofs.Honesty.{length-commitment}
 use Rattle.protocol.proofs.Unrefused.{unrefused}
 use Rattle.protocol.proofs.Receipts.{number-done}
 use Rattle.protocol.proofs.Locating.{length-part-one}
+use Rattle.protocol.proofs.Forms.{form-numbered, form-unnumbered}
 
 -- ---- the number that an answer has
 
@@ -64,6 +66,17 @@ module _ (r : List ℕ) where
       let t : atMost (length r) 65536 ≡ true = is-atMost h in
       let z : numberOf (firstFault true r) ≡ 0 = accepted-number true r e in
       rw (t, z)
+
+  -- with 0C: "On the line after `ACCEPTED` .. `ELECTION`, a space and the number in decimal", and with 01 no such line
+  pub page-numbered : length r ≤ 65536 → judged true r ≡ accepted → item r 0 ≡ 0x0C
+      → page r ≡ ((acceptedWord ++ (10 ∷ [])) ++ (electionWord ++ (decimal (number r 1 4) ++ (10 ∷ [])))) ++ tallyLines (announcedVotes r)
+  unfolding acceptedLines electionLine parametersOf
+  page-numbered h e b = page-accepted h e ∙ ap (λ (form : Form). acceptedLines form ++ tallyLines (announcedVotes r)) (form-numbered r b)
+
+  pub page-unnumbered : length r ≤ 65536 → judged true r ≡ accepted → item r 0 ≢ 0x0C
+      → page r ≡ (acceptedWord ++ (10 ∷ [])) ++ tallyLines (announcedVotes r)
+  unfolding acceptedLines electionLine parametersOf
+  page-unnumbered h e ne = page-accepted h e ∙ ap (λ (form : Form). acceptedLines form ++ tallyLines (announcedVotes r)) (form-unnumbered r ne)
 
   -- "Otherwise `REFUSED`, a space and the number"
   pub page-refused : length r ≤ 65536 → (k : ℕ) → judged true r ≡ refused k → page r ≡ refusedWord ++ (decimal k ++ (10 ∷ []))
