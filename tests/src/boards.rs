@@ -8,12 +8,32 @@ use std::collections::BTreeSet;
 
 use crate::random::Random;
 use crate::reference::election::{election, DiceTable};
-use crate::reference::terms::{Parameters, MAX_BALLOTS, MAX_M};
-use crate::reference::writer::{mask_of, Inputs};
+use crate::reference::terms::{Form, Parameters, MAX_BALLOTS, MAX_M};
+use crate::reference::writer::{self, mask_of, Inputs};
 
 /// Moduli at the limits, around powers of two, and in between.
 pub const MODULI: [u32; 9] =
     [2, 3, 9, 100, 65_537, 0x7FFF_FFFF, 0x8000_0000, 0xFFFF_FFFE, u32::MAX];
+
+/// Numbers of elections: at the limits of a byte and of the type, those whose bytes may be taken for
+/// commands, and one that no other order of its bytes is.
+pub const ELECTIONS: [u32; 12] = [
+    0,
+    1,
+    255,
+    256,
+    65_536,
+    0x0100_0000,
+    0x0102_0304,
+    0x0202_0202,
+    0x0B0B_0B0B,
+    0x0C0C_0C0C,
+    1 << 31,
+    u32::MAX,
+];
+
+/// Both forms; the number's bytes differ from each other.
+pub const FORMS: [Form; 2] = [Form::Unnumbered, Form::Numbered(0xE1EC_7104)];
 
 /// Numbers of ballots: one byte does not count the first, document 01 did not know the second, and
 /// the last is the most.
@@ -30,21 +50,40 @@ pub fn mistaken(place: u16) -> BTreeSet<u16> {
     bytes.into_iter().chain(bits).filter(|&other| other != place).collect()
 }
 
-/// Command 01 with this n, and nothing behind it.
-pub fn first_command(n: u16) -> Vec<u8> {
-    let [high, low] = n.to_be_bytes();
-    vec![0x01, 0, 0, 0, 2, high, low, 1]
+/// The first command of this form with this n, and nothing behind it.
+pub fn first_command(form: Form, n: u16) -> Vec<u8> {
+    writer::first_command(&Parameters { form, modulus: 2, n: n.into(), m: 1 })
 }
 
-/// Parameters with at most `n` ballots and 2 * `m` lists.
+/// A record that starts with 01 with 0C and this number in its place.
+pub fn numbered(record: &[u8], election: u32) -> Vec<u8> {
+    assert_eq!(record[0], 0x01);
+    [&[0x0C][..], &election.to_be_bytes(), &record[1..]].concat()
+}
+
+/// Either form, with any number.
+pub fn form(random: &mut Random) -> Form {
+    match random.below(4) {
+        0 | 1 => Form::Unnumbered,
+        2 => Form::Numbered(random.pick(&ELECTIONS)),
+        _ => Form::Numbered(random.word() as u32),
+    }
+}
+
+/// Parameters of either form with at most `n` ballots and 2 * `m` lists.
 pub fn parameters(random: &mut Random, n: u32, m: u32) -> Parameters {
+    Parameters { form: form(random), ..unnumbered_parameters(random, n, m) }
+}
+
+/// The same with command 01.
+pub fn unnumbered_parameters(random: &mut Random, n: u32, m: u32) -> Parameters {
     assert!(n <= MAX_BALLOTS && m <= MAX_M);
-    Parameters { modulus: random.pick(&MODULI), n: 1 + random.number(n), m: 1 + random.number(m) }
+    Parameters::unnumbered(random.pick(&MODULI), 1 + random.number(n), 1 + random.number(m))
 }
 
 /// Inputs that no part refuses; votes repeat.
 pub fn inputs(random: &mut Random, parameters: Parameters) -> Inputs {
-    let Parameters { modulus, n, m } = parameters;
+    let Parameters { modulus, n, m, .. } = parameters;
     let mn = (m * n) as usize;
     let n = n as usize;
     let candidates: Vec<u32> = (0..1 + n / 2).map(|_| random.number(modulus)).collect();
@@ -166,17 +205,26 @@ pub fn honest(random: &mut Random, parameters: Parameters, draws: Draws) -> Boar
 /// 0A the others.
 #[derive(Clone, Copy, Debug)]
 pub struct Layout {
+    form: Form,
     n: usize,
     m: usize,
 }
 
 impl Layout {
     pub fn new(parameters: &Parameters) -> Self {
-        Layout { n: parameters.ballots(), m: parameters.m as usize }
+        Layout { form: parameters.form, n: parameters.ballots(), m: parameters.m as usize }
+    }
+
+    /// Where M stands in the first command; n is 4 bytes behind it, m 6.
+    pub fn modulus(&self) -> usize {
+        match self.form {
+            Form::Unnumbered => 1,
+            Form::Numbered(_) => 5,
+        }
     }
 
     pub fn ballot(&self, j: usize) -> usize {
-        8 + 197 * j
+        self.modulus() + 7 + 197 * j
     }
 
     pub fn entry(&self, list: usize, position: usize) -> usize {

@@ -8,7 +8,7 @@ use crate::ffi;
 use crate::reference::election::DiceTable;
 use crate::reference::runoff::{Candidate, MOST_CANDIDATES};
 use crate::reference::tablet::SplitVote;
-use crate::reference::terms::Parameters;
+use crate::reference::terms::{Form, Parameters};
 use crate::reference::writer::Inputs;
 
 /// The number of the rule that is broken.
@@ -77,12 +77,12 @@ pub struct Command(pub [u8; 197]);
 #[derive(Clone, Copy, Debug, PartialEq, Eq)]
 pub struct Receipt(pub [u8; 32]);
 
-/// Casts a ballot.
-pub fn cast(modulus: u32, ballot: &Ballot) -> Result<(Command, Receipt), Refusal> {
+/// Casts a ballot of an election of this form.
+pub fn cast(form: Form, modulus: u32, ballot: &Ballot) -> Result<(Command, Receipt), Refusal> {
     let split = SplitVote { vote: ballot.vote, shares: ballot.shares, firsts: ballot.first_halves };
     let (mut command, mut receipt) = ([0; 197], [0; 32]);
-    let keys = ballot.keys.concat();
-    done(ffi::tablet::tablet(modulus, ballot.id, &split, &keys, &mut command, &mut receipt))?;
+    let (told, keys) = (form.into(), ballot.keys.concat());
+    done(ffi::tablet::tablet(told, modulus, ballot.id, &split, &keys, &mut command, &mut receipt))?;
     Ok((Command(command), Receipt(receipt)))
 }
 
@@ -102,9 +102,10 @@ pub struct List {
     pub keys: Vec<[Key; 6]>,
 }
 
-/// The ballots cast, and an even number of lists.
+/// The election's number if it has one, the ballots cast, and an even number of lists.
 #[derive(Clone, Debug)]
 pub struct Election {
+    pub form: Form,
     pub modulus: u32,
     pub ballots: Vec<Ballot>,
     pub lists: Vec<List>,
@@ -113,7 +114,7 @@ pub struct Election {
 impl Election {
     fn parameters(&self) -> Parameters {
         let (n, m) = (self.ballots.len() as u32, self.lists.len() as u32 / 2);
-        Parameters { modulus: self.modulus, n, m }
+        Parameters { form: self.form, modulus: self.modulus, n, m }
     }
 
     /// In the flat order of document 01.
@@ -173,8 +174,9 @@ pub fn elect(election: &Election, throws: &Throws) -> Result<Posted, Refusal> {
         second_dice: &throws.second,
         sides: throws.sides.as_deref().unwrap_or(&[]),
     };
+    let told = election.form.into();
     let [one, two, three] = &mut parts;
-    done(ffi::election::election(&inputs, &table, [one, two, three, &mut record]))?;
+    done(ffi::election::election(told, &inputs, &table, [one, two, three, &mut record]))?;
     Ok(Posted { parts, record })
 }
 
@@ -217,7 +219,8 @@ fn found(answer: u32) -> Result<Found, Refusal> {
 /// The votes that an accepted record announces, rising.
 pub fn announced_votes(record: &[u8]) -> Result<Vec<u32>, Refusal> {
     judge(record, false)?;
-    let mut votes = vec![0; usize::from(u16::from_be_bytes([record[5], record[6]]))];
+    let n = if record[0] == 0x0C { [record[9], record[10]] } else { [record[5], record[6]] };
+    let mut votes = vec![0; usize::from(u16::from_be_bytes(n))];
     done(ffi::results::announced_votes(record, &mut votes))?;
     Ok(votes)
 }

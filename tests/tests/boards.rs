@@ -3,7 +3,7 @@
 
 use std::collections::{BTreeMap, BTreeSet};
 
-use paddockyear_tests::boards::samples::{files, stored};
+use paddockyear_tests::boards::samples::{files, promised, stored};
 use paddockyear_tests::reference::judge::Judging;
 use paddockyear_tests::reference::page::{page, teller_page, LONGEST};
 use paddockyear_tests::reference::runoff::{Candidate, Outcome};
@@ -29,12 +29,11 @@ fn their_names_are_true() {
     for (name, bytes) in stored().unwrap() {
         let number =
             subject::judge(&bytes, Judging::Drawn).map_or_else(|fault| fault.number, |_| 0);
-        let due = name.strip_prefix("refused-").map_or("0", |rest| &rest[..rest.len() - 6]);
-        assert_eq!(number.to_string(), due, "{name}");
+        assert_eq!(number, promised(&name).unwrap_or(0), "{name}");
         assert!(bytes.len() <= LONGEST, "{name}");
         refused.insert(number);
     }
-    assert_eq!(refused, BTreeSet::from([0, 1, 5, 8, 9, 12, 13, 14, 16, 17]));
+    assert_eq!(refused, BTreeSet::from([0, 1, 2, 5, 8, 9, 12, 13, 14, 16, 17]));
     assert_eq!(page(&stored().unwrap()["votes-2-5-5.board"]), "ACCEPTED\n2 1\n5 2\n");
 }
 

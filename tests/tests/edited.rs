@@ -4,13 +4,14 @@
 
 use paddockyear_tests::boards::samples::files;
 use paddockyear_tests::boards::{honest, inputs, BOTH};
-use paddockyear_tests::edited::protocol::{Verdict, Written};
+use paddockyear_tests::edited::protocol::Verdict;
 use paddockyear_tests::edited::runoff as edited_runoff;
-use paddockyear_tests::edited::{disclosure, limits, results, verifier, wire};
+use paddockyear_tests::edited::{limits, results, verifier, wire};
 use paddockyear_tests::random::Random;
 use paddockyear_tests::reference::runoff::Candidate;
 use paddockyear_tests::reference::terms::{Parameters, MAX_BALLOTS};
-use paddockyear_tests::subjects::product::runoff;
+use paddockyear_tests::reference::writer::SidesSource;
+use paddockyear_tests::subjects::product::{part_three, runoff};
 
 #[test]
 fn slices_of_two_lengths() {
@@ -75,27 +76,14 @@ fn dice() {
 /// More places of ballots in compared lists than there were once in one.
 #[test]
 fn places_of_twelve_lists() {
-    let (random, parameters) = (&mut Random::new(62), Parameters { modulus: 100, n: 90, m: 12 });
+    let (random, parameters) = (&mut Random::new(62), Parameters::unnumbered(100, 90, 12));
     assert!(parameters.m * parameters.n > 1024);
     let given = inputs(random, parameters);
     let [_, _, length] = parameters.part_lengths();
     let (dice, mask, sides) = (random.dice(), random.mask(12), random.sides(90));
     let mut out = vec![0; length];
-    let answer = disclosure::part_three(
-        100,
-        90,
-        12,
-        &given.ids,
-        &given.votes,
-        &given.numbers,
-        &given.permutations,
-        &given.keys,
-        &dice,
-        mask,
-        &sides,
-        &mut out,
-    );
-    assert_eq!(answer, Written::Done);
+    let answer = part_three(&given, &dice, mask, SidesSource::Given(&sides), &mut out);
+    assert_eq!(answer, Ok(()));
 }
 
 /// A place and a position beyond the marks that there were once.
@@ -103,7 +91,7 @@ fn places_of_twelve_lists() {
 fn many_ballots_with_marks() {
     let places: Vec<u16> = (0..1025).collect();
     assert!(limits::is_permutation(1025, &places));
-    let parameters = Parameters { modulus: 100, n: 1025, m: 1 };
+    let parameters = Parameters::unnumbered(100, 1025, 1);
     let record = honest(&mut Random::new(63), parameters, BOTH).record();
     assert_eq!(verifier::judge_as_drawn(&record), Verdict::Accepted);
 }

@@ -5,11 +5,11 @@
 use paddockyear_tests::boards::calls::election::ElectionCall;
 use paddockyear_tests::boards::{inputs, BOTH};
 use paddockyear_tests::random::Random;
-use paddockyear_tests::reference::judge::{judge_within, Fault, JUDGINGS};
+use paddockyear_tests::reference::judge::{judge_by, Fault, JUDGINGS};
 use paddockyear_tests::reference::receipt::Posted;
 use paddockyear_tests::reference::runoff::{Candidate, Outcome};
 use paddockyear_tests::reference::tablet::SplitVote;
-use paddockyear_tests::reference::terms::{Parameters, FORMER_MAX_BALLOTS};
+use paddockyear_tests::reference::terms::{Form, Parameters, FORMER};
 use paddockyear_tests::reference::writer::Inputs;
 
 #[cfg(feature = "linked")]
@@ -31,7 +31,7 @@ fn rising_votes() -> Vec<u32> {
 /// The votes in any order; ids are the members' numbers, in three branches.
 fn association(random: &mut Random) -> Inputs {
     let rising = rising_votes();
-    let mut inputs = inputs(random, Parameters { modulus: M, n: MEMBERS as u32, m: 2 });
+    let mut inputs = inputs(random, Parameters::unnumbered(M, MEMBERS as u32, 2));
     let order = random.permutation(MEMBERS);
     inputs.votes = order.iter().map(|&place| rising[usize::from(place)]).collect();
     inputs.ids = (0..MEMBERS as u32).map(|j| (1 + j / 1200) * 100_000 + j % 1200).collect();
@@ -45,7 +45,8 @@ fn cast(inputs: &Inputs) -> Vec<([u8; 197], [u8; 32])> {
         let split = SplitVote { vote: inputs.votes[j], shares: [x, y], firsts: [u1, u2, u3] };
         let (mut command, mut receipt) = ([0; 197], [0; 32]);
         let keys = &inputs.keys[192 * j..][..192];
-        tablet(M, inputs.ids[j], &split, keys, &mut command, &mut receipt).unwrap();
+        tablet(Form::Unnumbered, M, inputs.ids[j], &split, keys, &mut command, &mut receipt)
+            .unwrap();
         (command, receipt)
     };
     (0..MEMBERS).map(ballot).collect()
@@ -94,7 +95,7 @@ fn from_the_tablets_to_the_runoff() {
     assert!(record[8..8 + 197 * MEMBERS] == commands.concat());
     for judging in JUDGINGS {
         assert_eq!(judge(record, judging), Ok(rising_votes()), "{judging:?}");
-        let before = judge_within(FORMER_MAX_BALLOTS, record, judging);
+        let before = judge_by(FORMER, record, judging);
         assert_eq!(before, Err(Fault { number: 3, place: 0 }));
     }
     check_receipts(record, &receipts);

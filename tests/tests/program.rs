@@ -9,11 +9,12 @@ use std::path::{Path, PathBuf};
 use std::process::{Command, Output, Stdio};
 
 use paddockyear_tests::boards::damage::damaged;
-use paddockyear_tests::boards::samples::{stored, with_votes, RANKED};
-use paddockyear_tests::boards::{first_command, honest, parameters, BOTH};
+use paddockyear_tests::boards::samples::{promised, stored, with_votes, RANKED};
+use paddockyear_tests::boards::{first_command, form, honest, parameters, BOTH, FORMS};
 use paddockyear_tests::random::Random;
 use paddockyear_tests::reference::judge::Judging;
 use paddockyear_tests::reference::page::{candidates_of, page, teller_page, LONGEST};
+use paddockyear_tests::reference::terms::Form;
 
 fn program(variable: &str, name: &str) -> PathBuf {
     let built = || Path::new(env!("CARGO_MANIFEST_DIR")).join("../target/bin").join(name);
@@ -74,7 +75,7 @@ fn sample_boards() {
     for (name, record) in samples() {
         let text = printed(&record);
         assert_eq!(text, page(&record), "{name}");
-        match name.strip_prefix("refused-") {
+        match promised(&name) {
             Some(rule) => assert_eq!(text, format!("REFUSED {rule}\n")),
             None => assert!(text.starts_with("ACCEPTED\n"), "{name}"),
         }
@@ -104,10 +105,61 @@ fn length_of_the_input() {
 #[test]
 fn limit_of_n() {
     for (n, number) in [(0, 3), (1, 1), (1024, 1), (1025, 1), (4096, 1), (4097, 3), (65_535, 3)] {
-        let record = first_command(n);
-        let due = format!("REFUSED {number}\n");
-        assert_eq!(printed(&record), due, "n = {n}");
-        assert_eq!(told("2", &record), due, "n = {n}");
+        for form in FORMS {
+            let record = first_command(form, n);
+            let due = format!("REFUSED {number}\n");
+            assert_eq!(printed(&record), due, "n = {n}");
+            assert_eq!(told("2", &record), due, "n = {n}");
+        }
+    }
+}
+
+/// The line below `ACCEPTED`, of both programs, with the number in decimal.
+#[test]
+fn numbered_elections() {
+    let random = &mut Random::new(315);
+    for (election, line) in [
+        (0, "ELECTION 0\n"),
+        (1, "ELECTION 1\n"),
+        (9, "ELECTION 9\n"),
+        (10, "ELECTION 10\n"),
+        (255, "ELECTION 255\n"),
+        (256, "ELECTION 256\n"),
+        (65_536, "ELECTION 65536\n"),
+        (0x0C0C_0C0C, "ELECTION 202116108\n"),
+        (1_000_000_000, "ELECTION 1000000000\n"),
+        (1 << 31, "ELECTION 2147483648\n"),
+        (u32::MAX, "ELECTION 4294967295\n"),
+    ] {
+        let record = with_votes(random, Form::Numbered(election), 9, &[5, 2, 5]).record();
+        assert_eq!(printed(&record), format!("ACCEPTED\n{line}2 1\n5 2\n"));
+        let rounds = "ROUND\t#1\t#2\tLEAVES\n1\t0\t1\t-\nWINNER\t#2\nBLANK\t0\nSPOILED\t2\n";
+        assert_eq!(told("2", &record), format!("ACCEPTED\n{line}{rounds}"));
+        for candidates in ["0", "10"] {
+            assert_eq!(told(candidates, &record), "REFUSED 20\n");
+        }
+        let end = record.len() - 1;
+        for (input, page) in [
+            (&record[..end], "REFUSED 1\n"),
+            (&record[..11], "REFUSED 1\n"),
+            (&[&record[..], &[0]].concat(), "REFUSED 17\n"),
+            (&[&[0x0D], &record[1..]].concat(), "REFUSED 2\n"),
+            (&[&record[..], &vec![0; LONGEST]].concat(), "TOO LONG\n"),
+        ] {
+            assert_eq!(printed(input), page);
+            assert_eq!(told("2", input), page);
+        }
+    }
+}
+
+/// The longest input that is read, as a record with 0C: the length of a page's line is not the
+/// input's.
+#[test]
+fn longest_numbered_input() {
+    for length in [LONGEST - 1, LONGEST, LONGEST + 1] {
+        let due = if length > LONGEST { "TOO LONG\n" } else { "REFUSED 2\n" };
+        assert_eq!(printed(&vec![0x0C; length]), due);
+        assert_eq!(told("3", &vec![0x0C; length]), due);
     }
 }
 
@@ -135,8 +187,9 @@ fn teller_on_sample_boards() {
     for (name, record) in samples() {
         for candidates in EVERY_NUMBER {
             let text = told(candidates, &record);
-            match name.strip_prefix("refused-") {
+            match promised(&name) {
                 Some(rule) => assert_eq!(text, format!("REFUSED {rule}\n")),
+                None if record[0] == 0x0C => assert!(text.starts_with("ACCEPTED\nELECTION ")),
                 None => assert!(text.starts_with("ACCEPTED\nROUND\t#1\t"), "{name}"),
             }
         }
@@ -167,10 +220,12 @@ fn teller_on_ranked_boards() {
     let (mut rounds, mut without_winner) = ([0; 10], 0);
     for _ in 0..40 {
         let votes = ranked_votes(random);
-        let record = with_votes(random, 1_000_000_000, &votes).record();
+        let form = form(random);
+        let record = with_votes(random, form, 1_000_000_000, &votes).record();
+        let others = if form == Form::Unnumbered { 5 } else { 6 };
         for candidates in EVERY_NUMBER {
             let text = told(candidates, &record);
-            rounds[text.lines().count() - 5] += 1;
+            rounds[text.lines().count() - others] += 1;
             without_winner += usize::from(text.contains("WINNER\tNONE\n"));
         }
     }
@@ -182,7 +237,8 @@ fn teller_on_ranked_boards() {
 #[test]
 fn teller_on_a_page_worked_out_by_hand() {
     let votes = [vec![1; 12], vec![21; 20], vec![3; 2], vec![0; 11], vec![44; 10]].concat();
-    let record = with_votes(&mut Random::new(311), 1_000_000_000, &votes).record();
+    let record =
+        with_votes(&mut Random::new(311), Form::Unnumbered, 1_000_000_000, &votes).record();
     let due = "ACCEPTED\nROUND\t#1\tLEAVES\n1\t12\t-\nWINNER\t#1\nBLANK\t11\nSPOILED\t32\n";
     assert_eq!(told("1", &record), due);
     let due = "ACCEPTED\nROUND\t#1\t#2\t#3\tLEAVES\n1\t12\t20\t2\t-\n\
@@ -193,7 +249,8 @@ fn teller_on_a_page_worked_out_by_hand() {
 /// A verdict on the record comes before 20.
 #[test]
 fn teller_refuses_numbers_of_candidates() {
-    let record = with_votes(&mut Random::new(312), 1_000_000_000, &RANKED).record();
+    let record =
+        with_votes(&mut Random::new(312), Form::Unnumbered, 1_000_000_000, &RANKED).record();
     let beyond_words = ["4294967299", "18446744073709551619", "99999999999999999999"];
     let beyond = ["340282366920938463463374607431768211459", &"9".repeat(1_000)];
     let small = ["0", "00", "10", "11", "19", "100", "255", "256", "259", "65539"];
@@ -232,7 +289,8 @@ fn teller_and_the_length_of_the_input() {
 /// Nothing but how it is used, whatever the record.
 #[test]
 fn teller_and_bad_arguments() {
-    let record = with_votes(&mut Random::new(314), 1_000_000_000, &RANKED).record();
+    let record =
+        with_votes(&mut Random::new(314), Form::Unnumbered, 1_000_000_000, &RANKED).record();
     let single =
         ["", " ", "+3", "-3", "3 ", " 3", "3\n", "3.0", "0x3", "3a", "a3", "/3", "3:", "\u{663}"];
     let mut wrong: Vec<Vec<&OsStr>> = single.iter().map(|word| vec![OsStr::new(word)]).collect();

@@ -9,7 +9,7 @@ use paddockyear_tests::random::Random;
 use paddockyear_tests::reference::judge::{Fault, JUDGINGS};
 use paddockyear_tests::reference::receipt::Posted;
 use paddockyear_tests::reference::tablet::{receipt, SplitVote};
-use paddockyear_tests::reference::terms::{sorted, Parameters};
+use paddockyear_tests::reference::terms::{sorted, Form, Parameters};
 use paddockyear_tests::reference::writer::{Inputs, MaskSource, SidesSource};
 
 #[cfg(feature = "linked")]
@@ -19,7 +19,7 @@ use paddockyear_tests::subjects::reference as subject;
 use subject::*;
 
 fn of(modulus: u32, n: u32, m: u32) -> Parameters {
-    Parameters { modulus, n, m }
+    Parameters::unnumbered(modulus, n, m)
 }
 
 /// The record of an election with both draws.
@@ -122,9 +122,15 @@ fn smallest_modulus() {
     answered_by_writers(random, of(1, 2, 1), Err(3));
     let split = SplitVote { vote: 0, shares: [0; 2], firsts: [0; 3] };
     let (mut command, mut printed) = ([7; 197], [7; 32]);
-    assert_eq!(tablet(1, 5, &split, &[0; 192], &mut command, &mut printed), Err(3));
+    assert_eq!(
+        tablet(Form::Unnumbered, 1, 5, &split, &[0; 192], &mut command, &mut printed),
+        Err(3)
+    );
     assert_eq!((command, printed), ([7; 197], [7; 32]));
-    assert_eq!(tablet(2, 5, &split, &[0; 192], &mut command, &mut printed), Ok(()));
+    assert_eq!(
+        tablet(Form::Unnumbered, 2, 5, &split, &[0; 192], &mut command, &mut printed),
+        Ok(())
+    );
 }
 
 #[test]

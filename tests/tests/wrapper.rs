@@ -1,12 +1,13 @@
 //! An election with the wrapper, from the tablets to the tally.
 
-use paddockyear_tests::boards::{board_with_dice, inputs, modulus, BOTH};
+use paddockyear_tests::boards::{board_with_dice, form, inputs, modulus, BOTH};
 use paddockyear_tests::random::Random;
-use paddockyear_tests::reference::terms::Parameters;
+use paddockyear_tests::reference::terms::{Form, Parameters};
 use paddockyear_tests::reference::writer::Inputs;
 use paddockyear_tests::wrapper::*;
 
 const M: u32 = 1000;
+const FORMS: [Form; 2] = [Form::Unnumbered, Form::Numbered(4_000_000_000)];
 
 fn keys(random: &mut Random) -> [Key; 6] {
     std::array::from_fn(|_| random.bytes(32).try_into().unwrap())
@@ -37,10 +38,10 @@ fn list(random: &mut Random, n: usize) -> List {
     }
 }
 
-fn election(random: &mut Random) -> Election {
+fn election(random: &mut Random, form: Form) -> Election {
     let ballots = ballots(random);
     let lists = (0..6).map(|_| list(random, ballots.len())).collect();
-    Election { modulus: M, ballots, lists }
+    Election { form, modulus: M, ballots, lists }
 }
 
 fn drawn(random: &mut Random) -> Throws {
@@ -50,38 +51,63 @@ fn drawn(random: &mut Random) -> Throws {
 #[test]
 fn from_the_tablets_to_the_tally() {
     let random = &mut Random::new(240);
-    let election = election(random);
+    for (form, first) in FORMS.into_iter().zip([8, 12]) {
+        let election = election(random, form);
+        let posted = elect(&election, &drawn(random)).unwrap();
+        check_election(&election, &posted, first);
+    }
+}
+
+/// The ballots stand behind the first command, of so many bytes.
+fn check_election(election: &Election, posted: &Posted, first: usize) {
     let cast: Vec<(Command, Receipt)> =
-        election.ballots.iter().map(|ballot| cast(M, ballot).unwrap()).collect();
-    let Posted { parts, record } = elect(&election, &drawn(random)).unwrap();
-    assert_eq!(record, parts.concat());
+        election.ballots.iter().map(|ballot| cast(election.form, M, ballot).unwrap()).collect();
+    let Posted { parts, record } = posted;
+    assert_eq!(*record, parts.concat());
 
     let commands: Vec<u8> = cast.iter().flat_map(|(command, _)| command.0).collect();
-    assert_eq!(parts[0][8..8 + 197 * 6], commands);
+    assert_eq!(parts[0][first..first + 197 * 6], commands);
     for (j, (_, receipt)) in cast.iter().enumerate() {
-        assert_eq!(check_receipt(&record, receipt), Ok(Found::AsPrinted));
+        assert_eq!(check_receipt(record, receipt), Ok(Found::AsPrinted));
         assert_eq!(check_receipt(&parts[0], receipt), Ok(Found::AsPrinted));
-        assert_eq!(look_up(&record, receipt), Ok(Found::AsPrinted));
-        assert_eq!(look_up(&parts[0][..8 + 197 * (j + 1)], receipt), Ok(Found::AsPrinted));
+        assert_eq!(look_up(record, receipt), Ok(Found::AsPrinted));
+        assert_eq!(look_up(&parts[0][..first + 197 * (j + 1)], receipt), Ok(Found::AsPrinted));
     }
     let mut other = cast[2].1;
     other.0[31] ^= 1;
-    assert_eq!(check_receipt(&record, &other), Ok(Found::Otherwise));
-    assert_eq!(look_up(&record, &other), Ok(Found::Otherwise));
+    assert_eq!(check_receipt(record, &other), Ok(Found::Otherwise));
+    assert_eq!(look_up(record, &other), Ok(Found::Otherwise));
     other.0[3] += 1;
-    assert_eq!(check_receipt(&record, &other), Ok(Found::NotPosted));
-    assert_eq!(look_up(&record, &other), Ok(Found::NotPosted));
+    assert_eq!(check_receipt(record, &other), Ok(Found::NotPosted));
+    assert_eq!(look_up(record, &other), Ok(Found::NotPosted));
 
-    assert_eq!((judge(&record, false), judge(&record, true)), (Ok(()), Ok(())));
-    assert_eq!(announced_votes(&record), Ok(vec![0, 2, 5, 5, 5, 999]));
-    assert_eq!(tally(&record), Ok(vec![(0, 1), (2, 1), (5, 3), (999, 1)]));
+    assert_eq!((judge(record, false), judge(record, true)), (Ok(()), Ok(())));
+    assert_eq!(announced_votes(record), Ok(vec![0, 2, 5, 5, 5, 999]));
+    assert_eq!(tally(record), Ok(vec![(0, 1), (2, 1), (5, 3), (999, 1)]));
+}
+
+/// Two elections in one evening, of the same ballots: they share all but the first command and what
+/// is drawn.
+#[test]
+fn two_numbers() {
+    let random = &mut Random::new(248);
+    let one = election(random, Form::Numbered(1));
+    let two = Election { form: Form::Numbered(2), ..one.clone() };
+    let throws = drawn(random);
+    let [one, two] = [one, two].map(|election| elect(&election, &throws).unwrap());
+    assert_eq!(one.record[..12], [0x0C, 0, 0, 0, 1, 0, 0, 3, 0xE8, 0, 6, 3]);
+    assert_eq!(two.record[..12], [0x0C, 0, 0, 0, 2, 0, 0, 3, 0xE8, 0, 6, 3]);
+    assert_eq!(one.parts[0][12..], two.parts[0][12..]);
+    assert_eq!(tally(&one.record), tally(&two.record));
+    let mixed = [&one.parts[0][..], &two.parts[1], &two.parts[2]].concat();
+    assert_eq!((judge(&mixed, false), judge(&mixed, true)), (Ok(()), Err(Refusal(8))));
 }
 
 /// A given mask and given sides are taken; only plain judging has to accept them.
 #[test]
 fn given_mask_and_sides() {
     let random = &mut Random::new(241);
-    let election = election(random);
+    let election = election(random, FORMS[1]);
     let throws = Throws { sides: Some(vec![1, 0, 0, 1, 1, 0]), ..drawn(random) };
     for mask in [0b000111, 0b111000, 0b010101] {
         let throws = Throws { mask: Some(mask), ..throws.clone() };
@@ -99,9 +125,11 @@ fn refused_ballots() {
     let random = &mut Random::new(242);
     let ballot = ballots(random).remove(0);
     let too_large = Ballot { vote: M, ..ballot.clone() };
-    assert_eq!(cast(M, &too_large), Err(Refusal(10)));
-    assert!(cast(M + 1, &too_large).is_ok());
-    assert_eq!(cast(1, &ballot), Err(Refusal(3)));
+    for form in FORMS {
+        assert_eq!(cast(form, M, &too_large), Err(Refusal(10)));
+        assert!(cast(form, M + 1, &too_large).is_ok());
+        assert_eq!(cast(form, 1, &ballot), Err(Refusal(3)));
+    }
     assert_eq!(Refusal(3).to_string(), "rule 3: M, n or m outside its limits");
     assert_eq!(Refusal(19).to_string(), "rule 19: a permutation that is none");
     let candidates = "rule 20: the number of candidates outside 1 to 9";
@@ -112,7 +140,13 @@ fn refused_ballots() {
 #[test]
 fn refused_elections() {
     let random = &mut Random::new(243);
-    let (honest, throws) = (election(random), drawn(random));
+    for form in FORMS {
+        check_refused_elections(random, form);
+    }
+}
+
+fn check_refused_elections(random: &mut Random, form: Form) {
+    let (honest, throws) = (election(random, form), drawn(random));
     let refused = |change: fn(&mut Election, &mut Throws)| {
         let (mut election, mut throws) = (honest.clone(), throws.clone());
         change(&mut election, &mut throws);
@@ -135,7 +169,7 @@ fn refused_elections() {
 #[test]
 fn refused_records() {
     let random = &mut Random::new(244);
-    let election = election(random);
+    let election = election(random, FORMS[1]);
     let mut record = elect(&election, &drawn(random)).unwrap().record;
     let end = record.len() - 1;
     assert_eq!(announced_votes(&record[..end]), Err(Refusal(1)));
@@ -151,7 +185,13 @@ fn refused_records() {
 #[test]
 fn ranked_votes() {
     let random = &mut Random::new(246);
-    let mut election = election(random);
+    for form in FORMS {
+        check_ranked_votes(random, form);
+    }
+}
+
+fn check_ranked_votes(random: &mut Random, form: Form) {
+    let mut election = election(random, form);
     for (ballot, vote) in election.ballots.iter_mut().zip([1, 21, 34, 0, 435, 43]) {
         ballot.vote = vote;
     }
@@ -202,6 +242,7 @@ fn nested(inputs: &Inputs) -> Election {
         }
     };
     Election {
+        form: inputs.parameters.form,
         modulus: inputs.parameters.modulus,
         ballots: (0..n).map(ballot).collect(),
         lists: (0..inputs.parameters.lists()).map(list).collect(),
@@ -209,7 +250,7 @@ fn nested(inputs: &Inputs) -> Election {
 }
 
 fn check_flat_order(random: &mut Random, n: u32, m: u32) {
-    let parameters = Parameters { modulus: modulus(random), n, m };
+    let parameters = Parameters { form: form(random), modulus: modulus(random), n, m };
     let inputs = inputs(random, parameters);
     let throws = drawn(random);
     let dice = [throws.first.clone(), throws.second.clone()];

@@ -30,7 +30,7 @@ fn put_honest(out: &mut impl Write, random: &mut Random) -> io::Result<()> {
         }
     }
     for (n, m) in [(257, 3), (1000, 2), (1024, 1), (1024, 12), (1025, 1), (4096, 1)] {
-        put(out, &honest(random, Parameters { modulus: u32::MAX, n, m }, BOTH).record())?;
+        put(out, &honest(random, Parameters::unnumbered(u32::MAX, n, m), BOTH).record())?;
     }
     Ok(())
 }
@@ -52,7 +52,7 @@ fn put_damaged(out: &mut impl Write, random: &mut Random) -> io::Result<()> {
 
 fn put_large(out: &mut impl Write, random: &mut Random) -> io::Result<()> {
     for n in [1024, 2048, 4096] {
-        put(out, &honest(random, Parameters { modulus: u32::MAX, n, m: 12 }, BOTH).record())?;
+        put(out, &honest(random, Parameters::unnumbered(u32::MAX, n, 12), BOTH).record())?;
     }
     Ok(())
 }

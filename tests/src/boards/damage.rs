@@ -3,13 +3,13 @@
 
 use std::collections::BTreeSet;
 
-use crate::boards::{inputs, parameters, Layout};
+use crate::boards::{inputs, parameters, unnumbered_parameters, Layout};
 use crate::random::Random;
 use crate::reference::drawing::{drawn_mask, drawn_sides, seed};
 use crate::reference::judge::{Fault, Judging};
 use crate::reference::sha3::sha3_224;
 use crate::reference::terms::{
-    difference, lists_of, refusal, sum, Opening, Parameters, MAX_BALLOTS,
+    difference, lists_of, refusal, sum, Edition, Form, Opening, Parameters, MAX_BALLOTS, NOW,
 };
 use crate::reference::writer::Secrets;
 
@@ -158,11 +158,12 @@ impl Target {
         }
     }
 
-    /// Where the command with this code starts. Of an opened list it is the last one.
+    /// Where the command with this code starts, the first one's being 01 in either form. Of an
+    /// opened list it is the last one.
     pub fn place(&self, code: u8, forgery: &Forgery) -> usize {
         let layout = &forgery.layout;
         match code {
-            0x01 => 0,
+            FIRST => 0,
             0x02 => layout.ballot(self.ballot),
             0x03 => layout.entry(self.list, self.position),
             0x04 => layout.first_dice(),
@@ -178,8 +179,13 @@ impl Target {
     }
 }
 
+/// The first command in a breach, whichever the form.
+pub const FIRST: u8 = 0x01;
+
 /// The bytes of each command, its code included.
-pub const WIDTHS: [usize; 11] = [8, 197, 196, 35, 10, 31, 112, 112, 7, 220, 1];
+fn widths(form: Form) -> [usize; 11] {
+    [form.width(), 197, 196, 35, 10, 31, 112, 112, 7, 220, 1]
+}
 
 #[derive(Clone, Copy)]
 enum How {
@@ -252,25 +258,30 @@ pub fn breach(forgery: &mut Forgery, target: &Target, breaches: &[Breach]) -> Fa
     Fault { number: first.number, place: first.order(forgery, target).0 }
 }
 
-/// A random board with one or two faults, and the first of them.
+/// A random board of either form with one or two faults, and the first of them.
 pub fn damaged(random: &mut Random, n: u32, m: u32, judging: Judging) -> (Vec<u8>, Fault) {
-    damaged_within(MAX_BALLOTS, random, (n, m), judging)
+    damaged_by(NOW, random, (n, m), judging)
 }
 
-/// The same, `most_ballots` being the limit that n breaks.
-pub fn damaged_within(
-    most_ballots: u32,
+/// The same by another edition's rules.
+pub fn damaged_by(
+    edition: Edition,
     random: &mut Random,
     (n, m): (u32, u32),
     judging: Judging,
 ) -> (Vec<u8>, Fault) {
-    let parameters = parameters(random, n, m);
+    let parameters = match edition.numbered {
+        true => parameters(random, n, m),
+        false => unnumbered_parameters(random, n, m),
+    };
     let secrets = Secrets::new(&inputs(random, parameters));
     let target = Target::any(random, &parameters);
     let mut forgery = Forgery::new(secrets, random.mask(parameters.m));
-    forgery.most_ballots = most_ballots;
-    let mut chosen = vec![any_breach(random, &parameters, judging)];
-    let other = any_breach(random, &parameters, judging);
+    forgery.most_ballots = edition.most_ballots;
+    let mut ways = breaches_by(edition, parameters.form, judging);
+    ways.retain(|breach| breach.possible(&parameters));
+    let mut chosen = vec![any_breach(random, &ways)];
+    let other = any_breach(random, &ways);
     if chosen[0].goes_with(&other) && random.below(2) == 0 {
         chosen.push(other);
     }
@@ -278,13 +289,11 @@ pub fn damaged_within(
     (forgery.record(random, judging), fault)
 }
 
-/// Any rule that can be broken here, and any way of breaking it.
-fn any_breach(random: &mut Random, parameters: &Parameters, judging: Judging) -> Breach {
-    let mut ways = breaches(judging);
-    ways.retain(|breach| breach.possible(parameters));
+/// Any rule that one of these ways breaks, and any of those that do.
+fn any_breach(random: &mut Random, ways: &[Breach]) -> Breach {
     let numbers: BTreeSet<u8> = ways.iter().map(|breach| breach.number).collect();
     let number = random.pick(&numbers.into_iter().collect::<Vec<u8>>());
-    ways.retain(|breach| breach.number == number);
+    let ways: Vec<Breach> = ways.iter().copied().filter(|way| way.number == number).collect();
     random.pick(&ways)
 }
 
@@ -296,9 +305,13 @@ pub fn flipped(random: &mut Random, record: &[u8]) -> Vec<u8> {
     record
 }
 
-/// Every breach that this judging meets.
-pub fn breaches(judging: Judging) -> Vec<Breach> {
-    let mut all = byte_breaches();
+/// Every breach that this judging meets in a record of this form.
+pub fn breaches(form: Form, judging: Judging) -> Vec<Breach> {
+    breaches_by(NOW, form, judging)
+}
+
+fn breaches_by(edition: Edition, form: Form, judging: Judging) -> Vec<Breach> {
+    let mut all = byte_breaches(edition, form);
     for group in [posting(), dice(), links(), halves(), results()] {
         all.extend(group.into_iter().map(|(command, number, name, change)| Breach {
             command,
@@ -312,12 +325,12 @@ pub fn breaches(judging: Judging) -> Vec<Breach> {
 }
 
 /// Rules 1 and 2 at each command.
-fn byte_breaches() -> Vec<Breach> {
+fn byte_breaches(edition: Edition, form: Form) -> Vec<Breach> {
     let mut all = Vec::new();
-    for (code, width) in (1..).zip(WIDTHS) {
-        let mut add = |number, name, how| all.push(Breach { command: code, number, name, how });
+    for (command, width) in (FIRST..).zip(widths(form)) {
+        let mut add = |number, name, how| all.push(Breach { command, number, name, how });
         add(refusal::STOPS, "no byte left", How::Absent);
-        for byte in [0, code - 1, code + 1, code | 0x80, 0x0C, 0xFF] {
+        for byte in bytes_not_due(edition, form, command) {
             add(refusal::NOT_DUE, "byte not due", How::Byte(byte));
         }
         if width > 1 {
@@ -328,22 +341,33 @@ fn byte_breaches() -> Vec<Breach> {
     all
 }
 
+/// Bytes that are refused in the place of a command's code, among them those of the first command.
+fn bytes_not_due(edition: Edition, form: Form, command: u8) -> Vec<u8> {
+    let code = if command == FIRST { form.code() } else { command };
+    let mut bytes = vec![0, code - 1, code + 1, code | 0x80, 0x0C, 0xFF];
+    if edition.numbered {
+        bytes.push(0x01);
+        bytes.retain(|byte| command != FIRST || ![0x01, 0x0C].contains(byte));
+    }
+    bytes
+}
+
 type Row = (u8, u8, &'static str, fn(&mut Forgery, &Target, usize));
 
-/// 01 to 03, and 0B.
+/// The first command to 03, and 0B.
 fn posting() -> Vec<Row> {
     use refusal::*;
     vec![
-        (0x01, LIMITS, "M = 0", |f, _, at| f.set(at + 1, &[0, 0, 0, 0])),
-        (0x01, LIMITS, "M = 1", |f, _, at| f.set(at + 1, &[0, 0, 0, 1])),
-        (0x01, LIMITS, "n = 0", |f, _, at| f.set(at + 5, &[0, 0])),
-        (0x01, LIMITS, "a ballot too many", |f, _, at| {
-            f.set(at + 5, &(f.most_ballots as u16 + 1).to_be_bytes());
+        (FIRST, LIMITS, "M = 0", |f, _, _| f.set(f.layout.modulus(), &[0, 0, 0, 0])),
+        (FIRST, LIMITS, "M = 1", |f, _, _| f.set(f.layout.modulus(), &[0, 0, 0, 1])),
+        (FIRST, LIMITS, "n = 0", |f, _, _| f.set(f.layout.modulus() + 4, &[0, 0])),
+        (FIRST, LIMITS, "a ballot too many", |f, _, _| {
+            f.set(f.layout.modulus() + 4, &(f.most_ballots as u16 + 1).to_be_bytes());
         }),
-        (0x01, LIMITS, "n = 65,535", |f, _, at| f.set(at + 5, &[255, 255])),
-        (0x01, LIMITS, "m = 0", |f, _, at| f.set(at + 7, &[0])),
-        (0x01, LIMITS, "m = 13", |f, _, at| f.set(at + 7, &[13])),
-        (0x01, LIMITS, "m = 255", |f, _, at| f.set(at + 7, &[255])),
+        (FIRST, LIMITS, "n = 65,535", |f, _, _| f.set(f.layout.modulus() + 4, &[255, 255])),
+        (FIRST, LIMITS, "m = 0", |f, _, _| f.set(f.layout.modulus() + 6, &[0])),
+        (FIRST, LIMITS, "m = 13", |f, _, _| f.set(f.layout.modulus() + 6, &[13])),
+        (FIRST, LIMITS, "m = 255", |f, _, _| f.set(f.layout.modulus() + 6, &[255])),
         (0x02, ID, "id as before", |f, to, at| {
             let before = f.secrets.ids[to.ballot - 1];
             f.set(at + 1, &before.to_be_bytes());

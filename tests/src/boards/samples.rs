@@ -5,12 +5,12 @@ use std::collections::BTreeMap;
 use std::path::Path;
 use std::{fs, io};
 
-use super::damage::damaged_within;
-use super::{board, honest, inputs, Board, BOTH};
+use super::damage::damaged_by;
+use super::{board, honest, inputs, Board, Layout, BOTH};
 use crate::random::Random;
 use crate::reference::judge::Judging;
 use crate::reference::page::LONGEST;
-use crate::reference::terms::{Parameters, FORMER_MAX_BALLOTS};
+use crate::reference::terms::{Edition, Form, Parameters, FORMER, NOW};
 use crate::reference::writer::Inputs;
 
 /// The rules of which a refused board is written.
@@ -25,12 +25,18 @@ pub const RANKED: [u32; 23] = [
 
 /// Names and bytes.
 pub fn files() -> Vec<(String, Vec<u8>)> {
+    [unnumbered_files(), numbered_files()].concat()
+}
+
+/// Those that start with 01.
+fn unnumbered_files() -> Vec<(String, Vec<u8>)> {
     let random = &mut Random::new(2026);
     let [eight, one] = [(100, 8, 2), (2, 1, 1)].map(|shape| of_shape(random, shape));
-    let three = with_votes(random, 9, &[5, 2, 5]);
-    let refused = RULES.map(|rule| (format!("refused-{rule}.board"), refused_by(random, rule)));
+    let three = with_votes(random, Form::Unnumbered, 9, &[5, 2, 5]);
+    let refused =
+        RULES.map(|rule| (format!("refused-{rule}.board"), refused_by(FORMER, random, rule)));
     let [twenty, lists] = [(10, 20, 2), (u32::MAX, 7, 12)].map(|shape| of_shape(random, shape));
-    let ranked = with_votes(random, 1_000_000_000, &RANKED);
+    let ranked = with_votes(random, Form::Unnumbered, 1_000_000_000, &RANKED);
     let accepted = [
         ("eight-ballots.board", eight),
         ("one-ballot.board", one),
@@ -41,6 +47,42 @@ pub fn files() -> Vec<(String, Vec<u8>)> {
     ];
     let accepted = accepted.map(|(name, board)| (name.to_string(), written(&board)));
     accepted.into_iter().chain(refused).collect()
+}
+
+/// Those that start with 0C, of seeds of their own, so that the others stay.
+fn numbered_files() -> Vec<(String, Vec<u8>)> {
+    let random = &mut Random::new(2027);
+    let eight = honest(random, Parameters::numbered(2, 100, 8, 2), BOTH);
+    let one = honest(random, Parameters::numbered(u32::MAX, 2, 1, 1), BOTH);
+    let ranked = with_votes(random, Form::Numbered(0), 1_000_000_000, &RANKED);
+    let accepted = [
+        ("numbered-eight-ballots.board", eight),
+        ("numbered-one-ballot.board", one),
+        ("numbered-ranked.board", ranked),
+    ];
+    let accepted = accepted.map(|(name, board)| (name.to_string(), written(&board)));
+    let cut = accepted[0].1[..9].to_vec();
+    let refused = [
+        ("numbered-refused-1.board", cut),
+        ("numbered-refused-2.board", again_where_dice_are_due(random)),
+        ("numbered-refused-8.board", refused_by(NOW, random, 8)),
+        ("numbered-refused-14.board", refused_by(NOW, random, 14)),
+    ];
+    accepted.into_iter().chain(refused.map(|(name, bytes)| (name.to_string(), bytes))).collect()
+}
+
+/// A board with 0C for 04.
+fn again_where_dice_are_due(random: &mut Random) -> Vec<u8> {
+    let board = honest(random, Parameters::numbered(0x0C0C_0C0C, 9, 2, 1), BOTH);
+    let mut record = board.record();
+    record[Layout::new(&board.inputs.parameters).first_dice()] = 0x0C;
+    record
+}
+
+/// The rule that refuses a board of this name, if one does.
+pub fn promised(name: &str) -> Option<u8> {
+    let (_, rule) = name.trim_end_matches(".board").rsplit_once("refused-")?;
+    Some(rule.parse().expect("a rule's number"))
 }
 
 /// The boards that are stored in the folder, by name.
@@ -56,22 +98,25 @@ pub fn stored() -> io::Result<BTreeMap<String, Vec<u8>>> {
 
 /// An honest board of these M, n and m.
 fn of_shape(random: &mut Random, (modulus, n, m): (u32, u32, u32)) -> Board {
-    honest(random, Parameters { modulus, n, m }, BOTH)
+    honest(random, Parameters::unnumbered(modulus, n, m), BOTH)
 }
 
 /// An honest board of these votes, with two lists.
-pub fn with_votes(random: &mut Random, modulus: u32, votes: &[u32]) -> Board {
-    let parameters = Parameters { modulus, n: votes.len() as u32, m: 1 };
+pub fn with_votes(random: &mut Random, form: Form, modulus: u32, votes: &[u32]) -> Board {
+    let parameters = Parameters { form, modulus, n: votes.len() as u32, m: 1 };
     let inputs = Inputs { votes: votes.to_vec(), ..inputs(random, parameters) };
     board(random, &inputs, BOTH)
 }
 
-/// A board that the program refuses by this rule. Those passed over break n's former limit: the
-/// dice thrown for them depend on their bytes, and the boards behind them on the dice.
-fn refused_by(random: &mut Random, rule: u8) -> Vec<u8> {
+/// A board that the program refuses by this rule, in the newest form of the edition. Those passed
+/// over break its rules too: the dice thrown for them depend on their bytes, and the boards behind
+/// them on the dice.
+fn refused_by(edition: Edition, random: &mut Random, rule: u8) -> Vec<u8> {
+    let first = if edition.numbered { 0x0C } else { 0x01 };
     loop {
-        let (record, fault) = damaged_within(FORMER_MAX_BALLOTS, random, (4, 2), Judging::Drawn);
-        if fault.number == rule && record.len() <= LONGEST {
+        let (record, fault) = damaged_by(edition, random, (4, 2), Judging::Drawn);
+        let fits = record.first() == Some(&first) && record.len() <= LONGEST;
+        if fault.number == rule && fits {
             return record;
         }
     }
@@ -84,8 +129,9 @@ fn written(board: &Board) -> Vec<u8> {
     let mut record = vec![0; board.inputs.parameters.record_length()];
     let table = BOTH.table([&board.parts[1][1..31], &board.parts[2][1..31]], 0, &[]);
     let [one, two, three] = &mut buffers;
-    let answer =
-        crate::ffi::election::election(&board.inputs, &table, [one, two, three, &mut record]);
+    let told = board.inputs.parameters.form.into();
+    let buffers: [&mut [u8]; 4] = [one, two, three, &mut record];
+    let answer = crate::ffi::election::election(told, &board.inputs, &table, buffers);
     assert_eq!(answer, 0);
     record
 }

@@ -1,5 +1,6 @@
 //! The election: the three parts, their join and its judging in one call.
 
+use super::Told;
 use crate::reference::election::DiceTable;
 use crate::reference::writer::Inputs;
 
@@ -8,6 +9,8 @@ mod faces {
         pub fn paddockyear_election(
             mask_given: u32,
             sides_given: u32,
+            numbered: u32,
+            election: u32,
             modulus: u32,
             ballots: u32,
             compared: u32,
@@ -41,13 +44,15 @@ mod faces {
 }
 
 /// 0, or the refusal's number.
-pub fn election(inputs: &Inputs, table: &DiceTable, buffers: [&mut [u8]; 4]) -> u32 {
+pub fn election(told: Told, inputs: &Inputs, table: &DiceTable, buffers: [&mut [u8]; 4]) -> u32 {
     let [one, two, three, joined] = buffers;
     // SAFETY: the face reads the inputs and what the dice table gives, and writes the buffers.
     unsafe {
         faces::paddockyear_election(
             table.mask_given,
             table.sides_given,
+            told.numbered,
+            told.election,
             inputs.parameters.modulus,
             inputs.parameters.n,
             inputs.parameters.m,

@@ -1,5 +1,6 @@
 //! The servers' three parts, and the draw of the mask.
 
+use super::Told;
 use crate::reference::terms::Parameters;
 use crate::reference::writer::{Inputs, MaskSource, SidesSource};
 
@@ -8,6 +9,8 @@ macro_rules! declare {
     ($($face:ident($($further:ident: $type:ty),*);)*) => {
         extern "C" {
             $(pub fn $face(
+                numbered: u32,
+                election: u32,
                 modulus: u32,
                 ballots: u32,
                 compared: u32,
@@ -49,6 +52,8 @@ mod faces {
 
     extern "C" {
         pub fn paddockyear_draw_mask(
+            numbered: u32,
+            election: u32,
             modulus: u32,
             ballots: u32,
             compared: u32,
@@ -61,13 +66,15 @@ mod faces {
     }
 }
 
-/// Calls a face with all inputs, and then with what follows.
+/// Calls a face with the form and all inputs, and then with what follows.
 macro_rules! call {
-    ($face:ident, $inputs:expr, $($further:expr),*) => {{
+    ($face:ident, $told:expr, $inputs:expr, $($further:expr),*) => {{
         let Inputs { parameters, ids, votes, numbers, permutations, keys } = $inputs;
         // SAFETY: the face reads the slices lent to it and writes the last one.
         unsafe {
             faces::$face(
+                $told.numbered,
+                $told.election,
                 parameters.modulus,
                 parameters.n,
                 parameters.m,
@@ -88,15 +95,16 @@ macro_rules! call {
 }
 
 /// 0, or the refusal's number.
-pub fn part_one(inputs: &Inputs, out: &mut [u8]) -> u32 {
-    call!(paddockyear_part_one, inputs, out.as_mut_ptr(), out.len())
+pub fn part_one(told: Told, inputs: &Inputs, out: &mut [u8]) -> u32 {
+    call!(paddockyear_part_one, told, inputs, out.as_mut_ptr(), out.len())
 }
 
 /// 0, or the refusal's number.
-pub fn part_two(inputs: &Inputs, dice: &[u8], mask: MaskSource, out: &mut [u8]) -> u32 {
+pub fn part_two(told: Told, inputs: &Inputs, dice: &[u8], mask: MaskSource, out: &mut [u8]) -> u32 {
     match mask {
         MaskSource::Given(mask) => call!(
             paddockyear_part_two,
+            told,
             inputs,
             dice.as_ptr(),
             dice.len(),
@@ -106,6 +114,7 @@ pub fn part_two(inputs: &Inputs, dice: &[u8], mask: MaskSource, out: &mut [u8]) 
         ),
         MaskSource::Drawn { part_one } => call!(
             paddockyear_part_two_drawn,
+            told,
             inputs,
             dice.as_ptr(),
             dice.len(),
@@ -119,6 +128,7 @@ pub fn part_two(inputs: &Inputs, dice: &[u8], mask: MaskSource, out: &mut [u8]) 
 
 /// 0, or the refusal's number.
 pub fn part_three(
+    told: Told,
     inputs: &Inputs,
     dice: &[u8],
     mask: u32,
@@ -128,6 +138,7 @@ pub fn part_three(
     match sides {
         SidesSource::Given(sides) => call!(
             paddockyear_part_three,
+            told,
             inputs,
             dice.as_ptr(),
             dice.len(),
@@ -139,6 +150,7 @@ pub fn part_three(
         ),
         SidesSource::Drawn { part_one, part_two } => call!(
             paddockyear_part_three_drawn,
+            told,
             inputs,
             dice.as_ptr(),
             dice.len(),
@@ -154,10 +166,18 @@ pub fn part_three(
 }
 
 /// 0, or the refusal's number; `mask` gets the drawn one.
-pub fn draw_mask(parameters: &Parameters, dice: &[u8], part_one: &[u8], mask: &mut u32) -> u32 {
+pub fn draw_mask(
+    told: Told,
+    parameters: &Parameters,
+    dice: &[u8],
+    part_one: &[u8],
+    mask: &mut u32,
+) -> u32 {
     // SAFETY: the face reads the two slices and writes the mask.
     unsafe {
         faces::paddockyear_draw_mask(
+            told.numbered,
+            told.election,
             parameters.modulus,
             parameters.n,
             parameters.m,

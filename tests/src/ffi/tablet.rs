@@ -1,10 +1,13 @@
 //! The tablet.
 
+use super::Told;
 use crate::reference::tablet::SplitVote;
 
 mod faces {
     extern "C" {
         pub fn paddockyear_tablet(
+            numbered: u32,
+            election: u32,
             modulus: u32,
             id: u32,
             vote: u32,
@@ -25,6 +28,7 @@ mod faces {
 
 /// 0, or the refusal's number.
 pub fn tablet(
+    told: Told,
     modulus: u32,
     id: u32,
     split: &SplitVote,
@@ -36,6 +40,8 @@ pub fn tablet(
     // SAFETY: the face reads the keys and writes the two other slices.
     unsafe {
         faces::paddockyear_tablet(
+            told.numbered,
+            told.election,
             modulus,
             id,
             vote,

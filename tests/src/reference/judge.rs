@@ -90,12 +90,19 @@ struct Link {
     t: u32,
 }
 
-/// Command 01, n being at most `most_ballots`.
-pub fn parameters(reader: &mut Reader, most_ballots: u32) -> Result<Parameters, Fault> {
-    let mut command = reader.command(0x01, 7)?;
-    let parameters =
-        Parameters { modulus: command.number(4), n: command.number(2), m: command.number(1) };
-    command.demand(parameters.within(most_ballots), refusal::LIMITS)?;
+/// The first command: 01, or 0C with the election's number before M.
+pub fn parameters(reader: &mut Reader, edition: Edition) -> Result<Parameters, Fault> {
+    let (mut command, form) = match reader.record.first() {
+        Some(0x0C) if edition.numbered => {
+            let mut command = reader.command(0x0C, 11)?;
+            let election = command.number(4);
+            (command, Form::Numbered(election))
+        }
+        _ => (reader.command(0x01, 7)?, Form::Unnumbered),
+    };
+    let (modulus, n, m) = (command.number(4), command.number(2), command.number(1));
+    let parameters = Parameters { form, modulus, n, m };
+    command.demand(parameters.within(edition.most_ballots), refusal::LIMITS)?;
     Ok(parameters)
 }
 
@@ -284,13 +291,13 @@ impl Judge<'_> {
 
 /// The announced votes of an accepted record, or its first fault.
 pub fn judge(record: &[u8], judging: Judging) -> Result<Vec<u32>, Fault> {
-    judge_within(MAX_BALLOTS, record, judging)
+    judge_by(NOW, record, judging)
 }
 
-/// The same with another limit on n.
-pub fn judge_within(most_ballots: u32, record: &[u8], judging: Judging) -> Result<Vec<u32>, Fault> {
+/// The same by another edition.
+pub fn judge_by(edition: Edition, record: &[u8], judging: Judging) -> Result<Vec<u32>, Fault> {
     let mut reader = Reader::new(record);
-    let parameters = parameters(&mut reader, most_ballots)?;
+    let parameters = parameters(&mut reader, edition)?;
     let ballots = ballots(&mut reader, &parameters)?;
     let mut judge = Judge { reader, judging, parameters };
     let lists = judge.lists()?;

@@ -1,33 +1,42 @@
 //! The texts of the programs' pages.
 
-use super::judge::{judge, Judging};
+use super::judge::{judge, parameters, Judging, Reader};
 use super::results::counted;
 use super::runoff::{Counted, End, Round, MOST_CANDIDATES};
-use super::terms::refusal;
+use super::terms::{refusal, Form, NOW};
 
 /// The longest record that the programs read.
 pub const LONGEST: usize = 65_536;
 
 /// What the program `scrutineer` writes for this input.
 pub fn page(input: &[u8]) -> String {
-    judged(input).map_or_else(|verdict| verdict, |votes| accepted(&votes))
+    judged(input).map_or_else(|verdict| verdict, |(head, votes)| head + &tally_lines(&votes))
 }
 
-/// The votes of an accepted record, else the line that the page is.
-fn judged(input: &[u8]) -> Result<Vec<u32>, String> {
+/// The head and the votes of an accepted record, else the line that the page is.
+fn judged(input: &[u8]) -> Result<(String, Vec<u32>), String> {
     if input.len() > LONGEST {
         return Err("TOO LONG\n".to_string());
     }
-    judge(input, Judging::Drawn).map_err(|fault| refused(fault.number))
+    let votes = judge(input, Judging::Drawn).map_err(|fault| refused(fault.number))?;
+    Ok((head(input), votes))
+}
+
+/// The lines above an accepted record's results.
+fn head(record: &[u8]) -> String {
+    let read = parameters(&mut Reader::new(record), NOW).expect("an accepted record has them");
+    match read.form {
+        Form::Unnumbered => "ACCEPTED\n".to_string(),
+        Form::Numbered(election) => format!("ACCEPTED\nELECTION {election}\n"),
+    }
 }
 
 fn refused(number: u8) -> String {
     format!("REFUSED {number}\n")
 }
 
-fn accepted(votes: &[u32]) -> String {
-    let lines = counted(votes).into_iter().map(|(vote, count)| format!("{vote} {count}\n"));
-    std::iter::once("ACCEPTED\n".to_string()).chain(lines).collect()
+fn tally_lines(votes: &[u32]) -> String {
+    counted(votes).into_iter().map(|(vote, count)| format!("{vote} {count}\n")).collect()
 }
 
 /// The number of candidates in the arguments of the program `teller`, if they are one number; the
@@ -46,15 +55,15 @@ pub fn teller_page(candidates: u32, input: &[u8]) -> String {
     match judged(input) {
         Err(verdict) => verdict,
         Ok(_) if !(1..=MOST_CANDIDATES).contains(&candidates) => refused(refusal::CANDIDATES),
-        Ok(votes) => told(&votes, candidates),
+        Ok((head, votes)) => head + &runoff_lines(&votes, candidates),
     }
 }
 
 /// A header, a line for each round, and the three lines of the outcome.
-fn told(votes: &[u32], candidates: u32) -> String {
+fn runoff_lines(votes: &[u32], candidates: u32) -> String {
     let counted = Counted::new(votes, candidates);
     let names: String = (1..=candidates).map(|number| format!("\t#{number}")).collect();
-    let mut page = format!("ACCEPTED\nROUND{names}\tLEAVES\n");
+    let mut page = format!("ROUND{names}\tLEAVES\n");
     for (round, number) in counted.rounds.iter().zip(1..) {
         page += &round_line(number, round, candidates);
     }

@@ -1,7 +1,7 @@
 //! The tablet: a vote split into six committed numbers, and the receipt.
 
 use super::sha3::sha3_224;
-use super::terms::{difference, refusal, Opening};
+use super::terms::{difference, refusal, Form, Opening};
 
 /// A vote w with its shares x and y and the first halves u1, u2, u3.
 #[derive(Clone, Copy, Debug, PartialEq, Eq)]
@@ -65,8 +65,9 @@ pub fn receipt(id: u32, command: &[u8]) -> [u8; 32] {
     receipt
 }
 
-/// Writes a ballot's command and its receipt, or answers 3, 18 or 10.
+/// Writes a ballot's command and its receipt, or answers 3, 18 or 10. They do not depend on the form.
 pub fn tablet(
+    _form: Form,
     modulus: u32,
     id: u32,
     split: &SplitVote,

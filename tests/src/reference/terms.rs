@@ -33,15 +33,60 @@ pub const FORMER_MAX_BALLOTS: u32 = 1024;
 pub const MAX_M: u32 = 12;
 pub const DICE: usize = 30;
 
-/// M, n and m, wide enough to be wrong.
+/// What a record may be: n's limit, and whether 0C may stand first.
+#[derive(Clone, Copy, Debug, PartialEq, Eq)]
+pub struct Edition {
+    pub most_ballots: u32,
+    pub numbered: bool,
+}
+
+pub const NOW: Edition = Edition { most_ballots: MAX_BALLOTS, numbered: true };
+/// Document 01's own, before document 02's items 3 and 4.
+pub const FORMER: Edition = Edition { most_ballots: FORMER_MAX_BALLOTS, numbered: false };
+
+/// Which command stands first: 01, or 0C with the election's number.
+#[derive(Clone, Copy, Debug, PartialEq, Eq)]
+pub enum Form {
+    Unnumbered,
+    Numbered(u32),
+}
+
+impl Form {
+    /// The first command's byte.
+    pub fn code(self) -> u8 {
+        match self {
+            Form::Unnumbered => 0x01,
+            Form::Numbered(_) => 0x0C,
+        }
+    }
+
+    /// The first command's bytes, its code included: what stands before the first ballot.
+    pub fn width(self) -> usize {
+        match self {
+            Form::Unnumbered => 8,
+            Form::Numbered(_) => 12,
+        }
+    }
+}
+
+/// The form, and M, n and m, wide enough to be wrong.
 #[derive(Clone, Copy, Debug, PartialEq, Eq)]
 pub struct Parameters {
+    pub form: Form,
     pub modulus: u32,
     pub n: u32,
     pub m: u32,
 }
 
 impl Parameters {
+    pub const fn unnumbered(modulus: u32, n: u32, m: u32) -> Self {
+        Parameters { form: Form::Unnumbered, modulus, n, m }
+    }
+
+    pub const fn numbered(election: u32, modulus: u32, n: u32, m: u32) -> Self {
+        Parameters { form: Form::Numbered(election), modulus, n, m }
+    }
+
     pub fn within_limits(&self) -> bool {
         self.within(MAX_BALLOTS)
     }
@@ -62,13 +107,17 @@ impl Parameters {
     /// The lengths of the servers' three parts.
     pub fn part_lengths(&self) -> [usize; 3] {
         let (n, mn) = (self.ballots(), self.m as usize * self.ballots());
-        [8 + 197 * n + 392 * mn, 35 + 10 * mn, 32 + 119 * n + 332 * mn]
+        [self.form.width() + 197 * n + 392 * mn, 35 + 10 * mn, 32 + 119 * n + 332 * mn]
     }
 
     /// The length of the whole record.
     pub fn record_length(&self) -> usize {
         let (n, m) = (self.ballots(), self.m as usize);
-        75 + 316 * n + 734 * m * n
+        let longer = match self.form {
+            Form::Unnumbered => 0,
+            Form::Numbered(_) => 4,
+        };
+        longer + 75 + 316 * n + 734 * m * n
     }
 }
 

@@ -142,12 +142,9 @@ impl Secrets {
         difference(modulus, firsts(&self.ballots[ballot]), firsts(entry))
     }
 
-    /// 01 to 03.
+    /// The first command to 03.
     pub fn part_one(&self) -> Vec<u8> {
-        let mut bytes = vec![0x01];
-        bytes.extend(self.parameters.modulus.to_be_bytes());
-        bytes.extend((self.parameters.n as u16).to_be_bytes());
-        bytes.push(self.parameters.m as u8);
+        let mut bytes = first_command(&self.parameters);
         for (id, ballot) in self.ids.iter().zip(&self.ballots) {
             bytes.extend(ballot_command(*id, ballot));
         }
@@ -209,6 +206,18 @@ impl Secrets {
             put_openings(bytes, &of_side(&self.lists[list][position], side));
         }
     }
+}
+
+/// 01, or 0C with the election's number before M.
+pub fn first_command(parameters: &Parameters) -> Vec<u8> {
+    let mut bytes = vec![parameters.form.code()];
+    if let Form::Numbered(election) = parameters.form {
+        bytes.extend(election.to_be_bytes());
+    }
+    bytes.extend(parameters.modulus.to_be_bytes());
+    bytes.extend((parameters.n as u16).to_be_bytes());
+    bytes.push(parameters.m as u8);
+    bytes
 }
 
 fn put_place(bytes: &mut Vec<u8>, code: u8, list: usize, index: usize) {

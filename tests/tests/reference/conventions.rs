@@ -47,7 +47,7 @@ fn mask_of_many_ballots() {
 /// Three ballots and two lists, every permutation another.
 fn inputs() -> Inputs {
     Inputs {
-        parameters: Parameters { modulus: 1000, n: 3, m: 1 },
+        parameters: Parameters::unnumbered(1000, 3, 1),
         ids: vec![7, 300, 70_000],
         votes: vec![5, 900, 5],
         numbers: (1..=69).map(|k| (37 * k + 11) % 1000).collect(),
@@ -79,7 +79,7 @@ fn many_inputs(n: u32) -> Inputs {
     let place = |c: u32, i: u32| (((6 * c + 5) * i + 77 * c + 1000) % n) as u16;
     let key = |k: u32| (0..32u32).map(move |at| ((k >> (8 * (at % 3))) + 5 * at) as u8);
     Inputs {
-        parameters: Parameters { modulus, n, m: 1 },
+        parameters: Parameters::unnumbered(modulus, n, 1),
         ids: (0..n).map(|j| 7 + 1_000_003 * j).collect(),
         votes: (0..wide).map(|j| number(j * j)).collect(),
         numbers: (1..=23 * wide).map(number).collect(),

@@ -64,7 +64,7 @@ fn permuted_votes() {
 #[test]
 fn page_of_2_5_5() {
     let random = &mut Random::new(5);
-    let mut inputs = inputs(random, Parameters { modulus: 9, n: 3, m: 2 });
+    let mut inputs = inputs(random, Parameters::unnumbered(9, 3, 2));
     inputs.votes = vec![5, 2, 5];
     let record = board(random, &inputs, BOTH).record();
     assert_eq!(judge(&record, Judging::Drawn), Ok(vec![2, 5, 5]));
@@ -78,7 +78,7 @@ fn page_of_2_5_5() {
 #[test]
 fn page_of_two_rounds() {
     let votes = [1, 13, 12, 1, 2, 21, 2, 31, 32, 0, 0, 33];
-    let record = with_votes(&mut Random::new(6), 1_000, &votes).record();
+    let record = with_votes(&mut Random::new(6), Form::Unnumbered, 1_000, &votes).record();
     let due = "ACCEPTED\nROUND\t#1\t#2\t#3\tLEAVES\n1\t4\t3\t2\t#3\n2\t5\t4\t-\t-\n\
                WINNER\t#1\nBLANK\t2\nSPOILED\t1\n";
     assert_eq!(teller_page(3, &record), due);
@@ -91,9 +91,43 @@ fn page_of_two_rounds() {
     }
 }
 
+/// The election's number stands below `ACCEPTED`, on both pages, and on no other.
+#[test]
+fn pages_of_numbered_elections() {
+    let random = &mut Random::new(8);
+    for (election, line) in [
+        (0, "ELECTION 0\n"),
+        (1, "ELECTION 1\n"),
+        (255, "ELECTION 255\n"),
+        (256, "ELECTION 256\n"),
+        (0x0102_0304, "ELECTION 16909060\n"),
+        (0x0C0C_0C0C, "ELECTION 202116108\n"),
+        (1 << 31, "ELECTION 2147483648\n"),
+        (u32::MAX, "ELECTION 4294967295\n"),
+    ] {
+        let record = with_votes(random, Form::Numbered(election), 9, &[5, 2, 5]).record();
+        assert_eq!(page(&record), format!("ACCEPTED\n{line}2 1\n5 2\n"));
+        let rounds = "ROUND\t#1\t#2\tLEAVES\n1\t0\t1\t-\nWINNER\t#2\nBLANK\t0\nSPOILED\t2\n";
+        assert_eq!(teller_page(2, &record), format!("ACCEPTED\n{line}{rounds}"));
+        for candidates in [0, 10, u32::MAX] {
+            assert_eq!(teller_page(candidates, &record), "REFUSED 20\n");
+        }
+        for (input, due) in [
+            (&record[..record.len() - 1], "REFUSED 1\n"),
+            (&record[..11], "REFUSED 1\n"),
+            (&[&record[..], &[0]].concat(), "REFUSED 17\n"),
+            (&[&[0x0D], &record[1..]].concat(), "REFUSED 2\n"),
+            (&[&record[..], &[0; 65_536]].concat(), "TOO LONG\n"),
+        ] {
+            assert_eq!(page(input), due);
+            assert_eq!(teller_page(2, input), due);
+        }
+    }
+}
+
 #[test]
 fn page_without_a_winner() {
-    let record = with_votes(&mut Random::new(7), 1_000, &[0, 0, 30, 3]).record();
+    let record = with_votes(&mut Random::new(7), Form::Unnumbered, 1_000, &[0, 0, 30, 3]).record();
     let due = "ACCEPTED\nROUND\t#1\t#2\tLEAVES\n1\t0\t0\t-\n\
                WINNER\tNONE\nBLANK\t2\nSPOILED\t2\n";
     assert_eq!(teller_page(2, &record), due);

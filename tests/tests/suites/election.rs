@@ -10,10 +10,16 @@ use paddockyear_tests::boards::calls::misuse::{
 use paddockyear_tests::boards::*;
 use paddockyear_tests::random::Random;
 use paddockyear_tests::reference::judge::Judging;
-use paddockyear_tests::reference::terms::{sorted, Parameters};
+use paddockyear_tests::reference::terms::{sorted, Form, Parameters};
 use paddockyear_tests::reference::writer::{mask_of, MaskSource, SidesSource};
 
-const SHAPE: Parameters = Parameters { modulus: 100, n: 3, m: 2 };
+const SHAPES: [Parameters; 2] =
+    [Parameters::unnumbered(100, 3, 2), Parameters::numbered(0x0102_0C01, 100, 3, 2)];
+
+/// The shape in both forms, each with all draws.
+fn ways() -> impl Iterator<Item = (Parameters, Draws)> {
+    SHAPES.into_iter().flat_map(|shape| ALL_DRAWS.map(|draws| (shape, draws)))
+}
 
 /// Holds the election; it writes its four buffers alone, and where it refuses nothing.
 fn answer(mut call: ElectionCall) -> u8 {
@@ -61,9 +67,9 @@ fn four_ways() {
     let random = &mut Random::new(230);
     for draws in ALL_DRAWS {
         for _ in 0..30 {
-            let Parameters { n, m, .. } = parameters(random, 16, 12);
-            let modulus = modulus(random);
-            check(ElectionCall::honest(random, Parameters { modulus, n, m }, draws), draws);
+            let parameters = parameters(random, 16, 12);
+            let parameters = Parameters { modulus: modulus(random), ..parameters };
+            check(ElectionCall::honest(random, parameters, draws), draws);
         }
     }
 }
@@ -79,7 +85,16 @@ fn of_many_ballots() {
         (4095, 1, NEITHER),
         (4096, 1, BOTH),
     ] {
-        let parameters = Parameters { modulus: u32::MAX, n, m };
+        let parameters = Parameters::unnumbered(u32::MAX, n, m);
+        check(ElectionCall::honest(random, parameters, draws), draws);
+    }
+}
+
+#[test]
+fn of_many_ballots_numbered() {
+    let random = &mut Random::new(283);
+    for (n, draws) in [(257, NEITHER), (4096, BOTH)] {
+        let parameters = Parameters::numbered(n << 16, u32::MAX, n, 1);
         check(ElectionCall::honest(random, parameters, draws), draws);
     }
 }
@@ -88,7 +103,12 @@ fn of_many_ballots() {
 #[test]
 fn given_mask_and_sides() {
     let random = &mut Random::new(232);
-    let parameters = Parameters { modulus: 100, n: 40, m: 8 };
+    for form in FORMS {
+        given_mask_and_sides_of(random, Parameters { form, modulus: 100, n: 40, m: 8 });
+    }
+}
+
+fn given_mask_and_sides_of(random: &mut Random, parameters: Parameters) {
     for (draws, number) in [
         (Draws { mask: false, sides: true }, 8),
         (Draws { mask: true, sides: false }, 12),
@@ -109,8 +129,8 @@ fn given_mask_and_sides() {
 #[test]
 fn switches() {
     let random = &mut Random::new(233);
-    for draws in ALL_DRAWS {
-        let mut call = ElectionCall::honest(random, SHAPE, draws);
+    for (shape, draws) in ways() {
+        let mut call = ElectionCall::honest(random, shape, draws);
         let again = |switch: u32| match switch {
             0 => vec![0],
             _ => vec![1, 2, 256, 1 << 16, 1 << 31, u32::MAX],
@@ -131,8 +151,8 @@ fn switches() {
 #[test]
 fn what_is_drawn_is_not_looked_at() {
     let random = &mut Random::new(234);
-    for draws in ALL_DRAWS {
-        let mut call = ElectionCall::honest(random, SHAPE, draws);
+    for (shape, draws) in ways() {
+        let mut call = ElectionCall::honest(random, shape, draws);
         let other = call.clone();
         call.hold(election).unwrap();
         for mask in [0, 1, 0b0011, u32::MAX] {
@@ -152,7 +172,7 @@ fn every_misuse() {
     let random = &mut Random::new(235);
     for draws in ALL_DRAWS {
         for (n, m) in [(1, 1), (3, 2), (2, 12), (257, 1)] {
-            let call = ElectionCall::honest(random, Parameters { modulus: 100, n, m }, draws);
+            let call = ElectionCall::honest(random, Parameters::unnumbered(100, n, m), draws);
             check_each(&call, answer);
         }
     }
@@ -161,17 +181,28 @@ fn every_misuse() {
 #[test]
 fn every_misuse_of_many_ballots() {
     let random = &mut Random::new(280);
-    let parameters = Parameters { modulus: 100, n: 1025, m: 1 };
+    let parameters = Parameters::unnumbered(100, 1025, 1);
     check_each(&ElectionCall::honest(random, parameters, NEITHER), answer);
+}
+
+#[test]
+fn every_misuse_numbered() {
+    let random = &mut Random::new(284);
+    for draws in ALL_DRAWS {
+        for (election, n, m) in [(0, 1, 1), (0x0C0C_0C0C, 3, 2), (u32::MAX, 2, 12)] {
+            let parameters = Parameters::numbered(election, 100, n, m);
+            check_each(&ElectionCall::honest(random, parameters, draws), answer);
+        }
+    }
 }
 
 /// One order over the whole input: 3, then 18 for every slice, the joined one too, then rising.
 #[test]
 fn every_pair_of_misuses() {
     let random = &mut Random::new(236);
-    for draws in ALL_DRAWS {
-        let call = ElectionCall::honest(random, Parameters { modulus: 9, n: 2, m: 1 }, draws);
-        check_pairs(&call, answer);
+    for (shape, draws) in ways() {
+        let parameters = Parameters { form: shape.form, modulus: 9, n: 2, m: 1 };
+        check_pairs(&ElectionCall::honest(random, parameters, draws), answer);
     }
 }
 
@@ -206,20 +237,24 @@ fn order_over_all_calls() {
         (&[join], 18),
         (&[], 0),
     ] {
-        let mut call = ElectionCall::honest(random, SHAPE, NEITHER);
-        breaks.iter().rev().for_each(|change| change(&mut call));
-        assert_eq!(answer(call), number);
+        for shape in SHAPES {
+            let mut call = ElectionCall::honest(random, shape, NEITHER);
+            breaks.iter().rev().for_each(|change| change(&mut call));
+            assert_eq!(answer(call), number);
+        }
     }
 }
 
-/// What is answered to these M, n and m, every slice as long as they ask for.
-fn check_limits(seed: u64, cases: &[(u32, u32, u32, u8)]) {
+/// What is answered to these M, n and m, every slice as long as they and the form ask for.
+fn check_limits(seed: u64, forms: &[Form], cases: &[(u32, u32, u32, u8)]) {
     let random = &mut Random::new(seed);
     for draws in ALL_DRAWS {
         for &(modulus, n, m, number) in cases {
-            let inputs = still_inputs(random, Parameters { modulus, n, m });
-            let call = ElectionCall::of(random, inputs, draws);
-            assert_eq!(answer(call), number, "{draws:?}: {modulus} {n} {m}");
+            for &form in forms {
+                let inputs = still_inputs(random, Parameters { form, modulus, n, m });
+                let call = ElectionCall::of(random, inputs, draws);
+                assert_eq!(answer(call), number, "{draws:?}: {form:?} {modulus} {n} {m}");
+            }
         }
     }
 }
@@ -236,21 +271,21 @@ fn limits() {
         (2, 1, 0, 3),
         (2, 1, 13, 3),
     ];
-    check_limits(238, &cases);
+    check_limits(238, &FORMS, &cases);
 }
 
 #[test]
 fn limits_of_many_ballots() {
-    check_limits(281, &[(2, 4096, 1, 0), (2, 4097, 1, 3)]);
+    check_limits(281, &[Form::Unnumbered], &[(2, 4096, 1, 0), (2, 4097, 1, 3)]);
 }
 
 /// Before 18.
 #[test]
 fn limits_of_n() {
     let random = &mut Random::new(282);
-    for draws in ALL_DRAWS {
+    for (shape, draws) in ways() {
         for (n, number) in LIMITS_OF_N {
-            let mut call = ElectionCall::honest(random, SHAPE, draws);
+            let mut call = ElectionCall::honest(random, shape, draws);
             call.inputs.parameters.n = n;
             assert_eq!(answer(call), number, "{draws:?}: n = {n}");
         }
@@ -268,9 +303,11 @@ fn refusals_of_each_way() {
         &[3, 5, 6, 10, 18, 19],
     ];
     for (draws, due) in ALL_DRAWS.into_iter().zip(due) {
-        let call = ElectionCall::honest(random, SHAPE, draws);
-        let met: BTreeSet<u8> = call.misuses().iter().map(|misuse| misuse.number).collect();
-        assert!(met.iter().eq(due), "{draws:?}");
+        for shape in SHAPES {
+            let call = ElectionCall::honest(random, shape, draws);
+            let met: BTreeSet<u8> = call.misuses().iter().map(|misuse| misuse.number).collect();
+            assert!(met.iter().eq(due), "{draws:?}");
+        }
         let mut answers = BTreeSet::new();
         for _ in 0..800 {
             let parameters = parameters(random, 5, 3);

@@ -1,27 +1,51 @@
 //! What the receipt lookup answers: what the receipt check does, but for what stands behind the
-//! ballot at which it stops, the first whose id is the one sought or larger.
+//! ballot at which it stops, the first whose id is the one sought or larger. Whatever record starts
+//! with 01, the same with 0C gets the same answer.
 
 use std::cmp::Ordering;
 use std::collections::BTreeSet;
 
-use crate::subject::{check_receipt, look_up};
+use crate::subject;
 use paddockyear_tests::boards::damage::{damaged, flipped};
 use paddockyear_tests::boards::*;
 use paddockyear_tests::random::Random;
 use paddockyear_tests::reference::judge::Judging;
 use paddockyear_tests::reference::receipt::Posted;
 use paddockyear_tests::reference::tablet::receipt;
-use paddockyear_tests::reference::terms::Parameters;
+use paddockyear_tests::reference::terms::{Form, Parameters};
 
 /// Ids at which one more byte counts, or the highest bit.
 const IDS: [u32; 6] = [3, 255, 256, 65_536, 0x8000_0000, u32::MAX - 1];
+
+/// What this entry answers, to a record that starts with 01 also with 0C in its place.
+fn in_both_forms(
+    entry: impl Fn(&[u8], &[u8]) -> Result<Posted, u8>,
+    record: &[u8],
+    printed: &[u8],
+) -> Result<Posted, u8> {
+    let answer = entry(record, printed);
+    if record.first() == Some(&0x01) {
+        let election = ELECTIONS[record.len() % ELECTIONS.len()];
+        assert_eq!(entry(&numbered(record, election), printed), answer);
+    }
+    answer
+}
+
+fn look_up(record: &[u8], printed: &[u8]) -> Result<Posted, u8> {
+    in_both_forms(subject::look_up, record, printed)
+}
+
+fn check_receipt(record: &[u8], printed: &[u8]) -> Result<Posted, u8> {
+    in_both_forms(subject::check_receipt, record, printed)
+}
 
 fn place(j: usize) -> usize {
     8 + 197 * j
 }
 
 fn ballot(record: &[u8], j: usize) -> &[u8] {
-    &record[place(j)..place(j + 1)]
+    let longer = if record[0] == 0x0C { 4 } else { 0 };
+    &record[longer + place(j)..longer + place(j + 1)]
 }
 
 /// Parameters, then ballots with these ids and any commitments, and nothing behind them.
@@ -39,7 +63,7 @@ fn posted(random: &mut Random, ids: &[u32]) -> Vec<u8> {
 
 /// The record of an honest board with these ids.
 fn whole(random: &mut Random, ids: &[u32]) -> Vec<u8> {
-    let mut inputs = inputs(random, Parameters { modulus: 100, n: ids.len() as u32, m: 1 });
+    let mut inputs = inputs(random, Parameters::unnumbered(100, ids.len() as u32, 1));
     inputs.ids = ids.to_vec();
     board(random, &inputs, NEITHER).record()
 }
@@ -367,7 +391,7 @@ fn ballots_that_n_counts() {
 #[test]
 fn limit_of_n() {
     for n in [0, 1, 1024, 1025, 4095, 4096, 4097, 5120, u16::MAX] {
-        let record = first_command(n);
+        let record = first_command(Form::Unnumbered, n);
         let due = Err(if (1..=4096).contains(&n) { 1 } else { 3 });
         assert_eq!(look_up(&record, &[0; 32]), due, "n = {n}");
         assert_eq!(check_receipt(&record, &[0; 32]), due, "n = {n}");
@@ -406,7 +430,7 @@ fn as_the_check_answers() {
         let parameters = parameters(random, 40, 2);
         let board = honest(random, parameters, NEITHER);
         let (record, ids) = (board.record(), &board.inputs.ids);
-        let ballots = &record[..place(ids.len())];
+        let ballots = &record[..Layout::new(&parameters).ballot(ids.len())];
         for sought in around(ids) {
             let [right, wrong] = receipts(&record, ids, sought);
             let other = receipt(sought, ballot(&record, random.index(ids.len())));
@@ -423,8 +447,9 @@ fn as_the_check_answers() {
 
 /// The ids of the ballots that end before a place, and whether these are all.
 fn ids_before(record: &[u8], place: usize) -> (Vec<u32>, bool) {
-    let Some(ballots) = record[..place].get(8..) else { return (Vec::new(), false) };
-    let n = usize::from(u16::from_be_bytes([record[5], record[6]]));
+    let first = if record.first() == Some(&0x0C) { 12 } else { 8 };
+    let Some(ballots) = record[..place].get(first..) else { return (Vec::new(), false) };
+    let n = usize::from(u16::from_be_bytes([record[first - 3], record[first - 2]]));
     let id = |ballot: &[u8]| u32::from_be_bytes(ballot[1..5].try_into().unwrap());
     let ids: Vec<u32> = ballots.chunks_exact(197).take(n).map(id).collect();
     let all = ids.len() == n;
@@ -492,4 +517,38 @@ fn as_the_check_of_fewer_ballots() {
     let whole = [None, Some(2), Some(5)].map(|number| (true, number));
     let not_found = [None, Some(1), Some(2), Some(5)].map(|number| (false, number));
     assert!(met.into_iter().eq(not_found.into_iter().chain(whole)));
+}
+
+/// 0C where a ballot is due, and each other byte in the place of the first command's.
+#[test]
+fn first_bytes() {
+    let sound = posted(&mut Random::new(265), &[10, 20, 30]);
+    let sound = numbered(&sound, 0x0202_0202);
+    let printed = receipt(20, ballot(&sound, 1));
+    assert_eq!(subject::look_up(&sound, &printed), Ok(Posted::AsPrinted));
+    for byte in (0..=255).filter(|byte| ![0x01, 0x0C].contains(byte)) {
+        let record = [&[byte][..], &sound[1..]].concat();
+        assert_eq!(subject::look_up(&record, &printed), Err(2), "{byte}");
+        assert_eq!(subject::check_receipt(&record, &printed), Err(2), "{byte}");
+    }
+    for j in 0..2 {
+        for byte in [0x01, 0x0C] {
+            let mut record = sound.clone();
+            record[12 + 197 * j] = byte;
+            assert_eq!(subject::look_up(&record, &printed), Err(2));
+            assert_eq!(subject::check_receipt(&record, &printed), Err(2));
+        }
+    }
+}
+
+/// 1 inside the first command of a numbered election, and behind it up to the ballot sought.
+#[test]
+fn cuts_of_a_numbered_election() {
+    let sound = numbered(&posted(&mut Random::new(266), &[10, 20, 30]), u32::MAX);
+    let printed = receipt(20, ballot(&sound, 1));
+    for length in 0..sound.len() {
+        let due = if length < 12 + 2 * 197 { Err(1) } else { Ok(Posted::AsPrinted) };
+        assert_eq!(subject::look_up(&sound[..length], &printed), due, "{length}");
+        assert_eq!(subject::check_receipt(&sound[..length], &printed), Err(1), "{length}");
+    }
 }

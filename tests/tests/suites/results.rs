@@ -1,21 +1,47 @@
-//! What the receipt check, the announced votes and the tally answer and write.
+//! What the receipt check, the announced votes and the tally answer and write. Whatever record
+//! starts with 01, the same with 0C gets the same answer.
 
 use std::collections::BTreeSet;
 
-use crate::subject::{announced_votes, check_receipt, tally};
+use crate::subject::{self, tally};
 use paddockyear_tests::boards::damage::{breach, breaches, damaged, Forgery, Target};
 use paddockyear_tests::boards::*;
 use paddockyear_tests::random::Random;
 use paddockyear_tests::reference::judge::Judging;
 use paddockyear_tests::reference::receipt::Posted;
 use paddockyear_tests::reference::tablet::receipt;
-use paddockyear_tests::reference::terms::{sorted, Parameters};
+use paddockyear_tests::reference::terms::{sorted, Form, Parameters};
 use paddockyear_tests::reference::writer::Secrets;
 
-const SHAPE: Parameters = Parameters { modulus: 100, n: 5, m: 1 };
+const SHAPE: Parameters = Parameters::unnumbered(100, 5, 1);
+
+/// The same record with 0C first, numbers in turn, if it starts with 01.
+fn twin(record: &[u8]) -> Option<Vec<u8>> {
+    let election = ELECTIONS[record.len() % ELECTIONS.len()];
+    (record.first() == Some(&0x01)).then(|| numbered(record, election))
+}
+
+fn check_receipt(record: &[u8], printed: &[u8]) -> Result<Posted, u8> {
+    let answer = subject::check_receipt(record, printed);
+    if let Some(twin) = twin(record) {
+        assert_eq!(subject::check_receipt(&twin, printed), answer);
+    }
+    answer
+}
+
+fn announced_votes(record: &[u8], out: &mut [u32]) -> Result<(), u8> {
+    let mut again = out.to_vec();
+    let answer = subject::announced_votes(record, out);
+    if let Some(twin) = twin(record) {
+        assert_eq!(subject::announced_votes(&twin, &mut again), answer);
+        assert_eq!(again, out);
+    }
+    answer
+}
 
 fn ballot(record: &[u8], j: usize) -> &[u8] {
-    &record[8 + 197 * j..][..197]
+    let first = if record[0] == 0x0C { 12 } else { 8 };
+    &record[first + 197 * j..][..197]
 }
 
 #[test]
@@ -75,12 +101,12 @@ fn receipt_refusals() {
 #[test]
 fn receipts_on_damaged_boards() {
     let random = &mut Random::new(44);
-    let parameters = Parameters { modulus: 100, n: 5, m: 2 };
+    let parameters = Parameters::unnumbered(100, 5, 2);
     let secrets = Secrets::new(&inputs(random, parameters));
     let printed = receipt(secrets.ids[0], ballot(&secrets.part_one(), 0));
     let target = Target { ballot: 3, list: 1, position: 2, rank: 1, opened: 0 };
     let mut met = BTreeSet::new();
-    for one in breaches(Judging::Plain) {
+    for one in breaches(Form::Unnumbered, Judging::Plain) {
         let mut forgery = Forgery::new(secrets.clone(), random.mask(2));
         let due = breach(&mut forgery, &target, &[one]);
         let record = forgery.record(random, Judging::Plain);
@@ -124,7 +150,7 @@ fn random_receipts() {
 #[test]
 fn receipts_among_many_ballots() {
     let random = &mut Random::new(46);
-    let mut inputs = inputs(random, Parameters { modulus: 2, n: 4096, m: 1 });
+    let mut inputs = inputs(random, Parameters::unnumbered(2, 4096, 1));
     inputs.ids = (0..4096).map(|j| j << 20 | j).collect();
     let record = board(random, &inputs, NEITHER).record();
     for j in FAR_PLACES {
@@ -135,6 +161,33 @@ fn receipts_among_many_ballots() {
         for other in mistaken(j as u16).into_iter().filter(|&other| other < 4096) {
             let other = receipt(inputs.ids[j], ballot(&record, usize::from(other)));
             assert_eq!(check_receipt(&record, &other), Ok(Posted::Otherwise));
+        }
+    }
+}
+
+/// Receipts say nothing of the form: those of one record are the other's, and the number may be any.
+#[test]
+fn receipts_of_both_forms() {
+    let board = honest(&mut Random::new(50), SHAPE, NEITHER);
+    let record = board.record();
+    for election in ELECTIONS {
+        let mut record = numbered(&record, election);
+        for (j, &id) in board.inputs.ids.iter().enumerate() {
+            let printed = receipt(id, &board.parts[0][8 + 197 * j..][..197]);
+            assert_eq!(subject::check_receipt(&record, &printed), Ok(Posted::AsPrinted));
+            let mut other = printed;
+            other[4] ^= 1;
+            assert_eq!(subject::check_receipt(&record, &other), Ok(Posted::Otherwise));
+            let beside = receipt(u32::MAX, ballot(&record, j));
+            assert_eq!(subject::check_receipt(&record, &beside), Ok(Posted::Not));
+        }
+        record[9..11].copy_from_slice(&4097u16.to_be_bytes());
+        assert_eq!(subject::check_receipt(&record, &[0; 32]), Err(3));
+        record[0] = 0x0D;
+        assert_eq!(subject::check_receipt(&record, &[0; 32]), Err(2));
+        for length in 0..12 {
+            record[0] = 0x0C;
+            assert_eq!(subject::check_receipt(&record[..length], &[0; 32]), Err(1));
         }
     }
 }
@@ -177,7 +230,7 @@ fn announced_by_boards_of_any_shape() {
 #[test]
 fn announced_by_many_ballots() {
     let random = &mut Random::new(85);
-    let board = honest(random, Parameters { modulus: u32::MAX, n: 4096, m: 1 }, NEITHER);
+    let board = honest(random, Parameters::unnumbered(u32::MAX, 4096, 1), NEITHER);
     let record = board.record();
     let mut out = vec![77; 4097];
     for length in [1024, 4095, 4097] {

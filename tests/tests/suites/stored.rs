@@ -1,18 +1,24 @@
-//! Stored records: one of up to 1,024 ballots has the verdict, by number and place, that it had
-//! when that was n's limit; of more it was 3. The reference judges with either limit.
+//! Stored records: one of up to 1,024 ballots that starts with 01 has the verdict, by number and
+//! place, that it had when that was n's limit and there was no 0C; of more ballots it was 3, and of
+//! one that starts with 0C it was 2. The reference judges by either edition.
 
 use std::collections::BTreeSet;
 
 use crate::subject::judge;
-use paddockyear_tests::boards::damage::{
-    breach, breaches, damaged_within, Breach, Forgery, Target,
-};
-use paddockyear_tests::boards::samples::stored;
-use paddockyear_tests::boards::{honest, inputs, BOTH};
+use paddockyear_tests::boards::damage::{breach, breaches, damaged_by, Breach, Forgery, Target};
+use paddockyear_tests::boards::samples::{promised, stored};
+use paddockyear_tests::boards::{honest, inputs, BOTH, ELECTIONS};
 use paddockyear_tests::random::Random;
-use paddockyear_tests::reference::judge::{judge_within, Fault, Judging, JUDGINGS};
-use paddockyear_tests::reference::terms::{sorted, Parameters, FORMER_MAX_BALLOTS, MAX_BALLOTS};
+use paddockyear_tests::reference::judge::{judge_by, Fault, Judging, JUDGINGS};
+use paddockyear_tests::reference::terms::{
+    sorted, Edition, Form, Parameters, FORMER, FORMER_MAX_BALLOTS, MAX_BALLOTS,
+};
 use paddockyear_tests::reference::writer::Secrets;
+
+/// The verdict by the former edition, but for this limit on n.
+fn judge_within(limit: u32, record: &[u8], judging: Judging) -> Result<Vec<u32>, Fault> {
+    judge_by(Edition { most_ballots: limit, ..FORMER }, record, judging)
+}
 
 /// The verdict on a record of n ballots, which is the same with n and with 1,024 as the limit. With
 /// less it is 3, unless the first command has a fault that comes before.
@@ -30,13 +36,34 @@ fn kept_verdict(record: &[u8], n: u32, judging: Judging) -> Result<Vec<u32>, Fau
 
 #[test]
 fn of_the_folder() {
-    for (name, record) in stored().unwrap() {
+    let (numbered, others): (Vec<_>, Vec<_>) =
+        stored().unwrap().into_iter().partition(|(name, _)| name.starts_with("numbered-"));
+    assert!(numbered.len() >= 6 && others.len() == 15);
+    for (name, record) in others {
         let n = u32::from(u16::from_be_bytes([record[5], record[6]]));
         assert!((1..=FORMER_MAX_BALLOTS).contains(&n), "{name}");
         for judging in JUDGINGS {
             let verdict = kept_verdict(&record, n, judging);
-            let honest = !name.starts_with("refused-");
+            let honest = promised(&name).is_none();
             assert!(judging == Judging::Plain || verdict.is_ok() == honest, "{name}");
+        }
+    }
+    for (name, record) in numbered {
+        let verdict = judge_by(FORMER, &record, Judging::Drawn);
+        assert_eq!(verdict, Err(Fault { number: 2, place: 0 }), "{name}");
+    }
+}
+
+/// What starts with 0C was refused whatever stood behind it.
+#[test]
+fn of_numbered_elections() {
+    let random = &mut Random::new(296);
+    for election in ELECTIONS {
+        let board = honest(random, Parameters::numbered(election, 100, 3, 1), BOTH);
+        for judging in JUDGINGS {
+            assert_eq!(judge(&board.record(), judging), Ok(sorted(&board.inputs.votes)));
+            let former = judge_by(FORMER, &board.record(), judging);
+            assert_eq!(former, Err(Fault { number: 2, place: 0 }));
         }
     }
 }
@@ -45,7 +72,7 @@ fn of_the_folder() {
 fn of_few_ballots() {
     let random = &mut Random::new(290);
     for n in 1..=40 {
-        let board = honest(random, Parameters { modulus: 100, n, m: 1 + n % 3 }, BOTH);
+        let board = honest(random, Parameters::unnumbered(100, n, 1 + n % 3), BOTH);
         for judging in JUDGINGS {
             let votes = sorted(&board.inputs.votes);
             assert_eq!(kept_verdict(&board.record(), n, judging), Ok(votes));
@@ -57,7 +84,7 @@ fn of_few_ballots() {
 fn of_many_ballots() {
     let random = &mut Random::new(291);
     for n in [255, 256, 257, 1023, 1024] {
-        let board = honest(random, Parameters { modulus: u32::MAX, n, m: 1 }, BOTH);
+        let board = honest(random, Parameters::unnumbered(u32::MAX, n, 1), BOTH);
         for judging in JUDGINGS {
             let votes = sorted(&board.inputs.votes);
             assert_eq!(kept_verdict(&board.record(), n, judging), Ok(votes));
@@ -79,30 +106,33 @@ fn kept_fault(random: &mut Random, parameters: Parameters, way: Breach, judging:
 fn damaged_in_every_way() {
     let random = &mut Random::new(292);
     for judging in JUDGINGS {
-        for way in breaches(judging) {
+        for way in breaches(Form::Unnumbered, judging) {
             for (n, m) in [(2, 1), (3, 2), (40, 1)] {
-                kept_fault(random, Parameters { modulus: 100, n, m }, way, judging);
+                kept_fault(random, Parameters::unnumbered(100, n, m), way, judging);
             }
         }
     }
 }
 
-/// Two faults or one, n = 1,025 being one of them: of all verdicts only that one is another now.
+/// Two faults or one, n = 1,025 and the first byte 0C being among them: of all verdicts only those
+/// are others now.
 #[test]
 fn damaged_at_random() {
     let random = &mut Random::new(293);
-    let mut others = 0;
+    let mut others = [0; 2];
     for judging in JUDGINGS {
         for _ in 0..500 {
-            let (record, due) = damaged_within(FORMER_MAX_BALLOTS, random, (9, 3), judging);
-            assert_eq!(judge_within(FORMER_MAX_BALLOTS, &record, judging), Err(due));
+            let (record, due) = damaged_by(FORMER, random, (9, 3), judging);
+            assert_eq!(judge_by(FORMER, &record, judging), Err(due));
             let stands = due.number == 3 && record[5..7] == [4, 1];
+            let numbered = due.number == 2 && record[0] == 0x0C;
             let found = judge(&record, judging);
-            assert_eq!(found == Err(due), !stands, "{due:?}");
-            others += usize::from(stands);
+            assert_eq!(found == Err(due), !stands && !numbered, "{due:?}");
+            others[0] += usize::from(stands);
+            others[1] += usize::from(numbered);
         }
     }
-    assert!(others > 0);
+    assert!(others.iter().all(|&count| count > 0), "{others:?}");
 }
 
 /// One way for each rule of each command, on as many ballots as there were at most.
@@ -110,8 +140,8 @@ fn damaged_at_random() {
 fn damaged_of_many_ballots() {
     let random = &mut Random::new(294);
     let mut met = BTreeSet::new();
-    let parameters = Parameters { modulus: u32::MAX, n: FORMER_MAX_BALLOTS, m: 1 };
-    for way in breaches(Judging::Plain) {
+    let parameters = Parameters::unnumbered(u32::MAX, FORMER_MAX_BALLOTS, 1);
+    for way in breaches(Form::Unnumbered, Judging::Plain) {
         if met.insert((way.command, way.number)) {
             kept_fault(random, parameters, way, Judging::Plain);
         }
@@ -124,7 +154,7 @@ fn damaged_of_many_ballots() {
 fn above_the_former_limit_of_many_ballots() {
     let random = &mut Random::new(295);
     for n in [FORMER_MAX_BALLOTS + 1, MAX_BALLOTS] {
-        let board = honest(random, Parameters { modulus: u32::MAX, n, m: 1 }, BOTH);
+        let board = honest(random, Parameters::unnumbered(u32::MAX, n, 1), BOTH);
         let (record, votes) = (board.record(), Ok(sorted(&board.inputs.votes)));
         for judging in JUDGINGS {
             assert_eq!(judge(&record, judging), votes);

@@ -5,16 +5,17 @@ use std::collections::BTreeSet;
 use crate::subject::tablet;
 use paddockyear_tests::boards::calls::misuse::{check_each, check_pairs, misuse_at_random};
 use paddockyear_tests::boards::calls::tablet::TabletCall;
-use paddockyear_tests::boards::{honest, parameters, MODULI, NEITHER};
+use paddockyear_tests::boards::{honest, parameters, Layout, ELECTIONS, FORMS, MODULI, NEITHER};
 use paddockyear_tests::random::Random;
 use paddockyear_tests::reference::receipt::{check_receipt, Posted};
 use paddockyear_tests::reference::tablet::SplitVote;
+use paddockyear_tests::reference::terms::{Form, Parameters};
 
 /// Runs the call; a refusal leaves both buffers as they were.
 fn answer(mut call: TabletCall) -> u8 {
     let before = (call.command.clone(), call.receipt.clone());
-    let TabletCall { modulus, id, split, keys, command, receipt } = &mut call;
-    let answer = tablet(*modulus, *id, split, keys, command, receipt);
+    let TabletCall { form, modulus, id, split, keys, command, receipt } = &mut call;
+    let answer = tablet(*form, *modulus, *id, split, keys, command, receipt);
     assert!(answer.is_ok() || (call.command, call.receipt) == before);
     answer.map_or_else(|number| number, |()| 0)
 }
@@ -81,11 +82,16 @@ fn random_ballots() {
 fn tablet_refusals() {
     let split = SplitVote { vote: 24, shares: [50, 60], firsts: [7, 99, 30] };
     let run = |modulus, split: &SplitVote, keys: usize, command: usize, receipt: usize| {
-        let (mut command, mut receipt) = (vec![7; command], vec![7; receipt]);
-        let answer = tablet(modulus, 5, split, &vec![1; keys], &mut command, &mut receipt);
-        let untouched = command.iter().chain(&receipt).all(|&byte| byte == 7);
-        assert_eq!(answer.is_err(), untouched);
-        answer
+        let answers = FORMS.map(|form| {
+            let (mut command, mut receipt) = (vec![7; command], vec![7; receipt]);
+            let answer =
+                tablet(form, modulus, 5, split, &vec![1; keys], &mut command, &mut receipt);
+            let untouched = command.iter().chain(&receipt).all(|&byte| byte == 7);
+            assert_eq!(answer.is_err(), untouched);
+            answer
+        });
+        assert_eq!(answers[0], answers[1]);
+        answers[0]
     };
     assert_eq!(run(100, &split, 192, 197, 32), Ok(()));
     assert_eq!(run(1, &split, 191, 197, 32), Err(3));
@@ -104,6 +110,24 @@ fn tablet_refusals() {
     }
 }
 
+/// Command and receipt are the same in every form.
+#[test]
+fn forms() {
+    let random = &mut Random::new(71);
+    for _ in 0..20 {
+        let call = TabletCall::honest(random);
+        let written = |form| {
+            let TabletCall { modulus, id, split, keys, mut command, mut receipt, .. } =
+                call.clone();
+            tablet(form, modulus, id, &split, &keys, &mut command, &mut receipt).unwrap();
+            (command, receipt)
+        };
+        for election in ELECTIONS {
+            assert_eq!(written(Form::Numbered(election)), written(Form::Unnumbered));
+        }
+    }
+}
+
 /// The tablet writes what part one has for the ballot.
 #[test]
 fn tablet_writes_the_ballot() {
@@ -119,8 +143,9 @@ fn tablet_writes_the_ballot() {
             let keys = &inputs.keys[192 * ballot..][..192];
             let (mut command, mut receipt) = ([0; 197], [0; 32]);
             let id = inputs.ids[ballot];
-            tablet(parameters.modulus, id, &split, keys, &mut command, &mut receipt).unwrap();
-            assert_eq!(command, board.parts[0][8 + 197 * ballot..][..197]);
+            let Parameters { form, modulus, .. } = parameters;
+            tablet(form, modulus, id, &split, keys, &mut command, &mut receipt).unwrap();
+            assert_eq!(command, board.parts[0][Layout::new(&parameters).ballot(ballot)..][..197]);
             assert_eq!(check_receipt(&board.record(), &receipt), Ok(Posted::AsPrinted));
         }
     }

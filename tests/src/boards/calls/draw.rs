@@ -1,6 +1,8 @@
 //! Calls of the draw of the mask.
 
-use super::misuse::{drop_last, further, last, Misusable, Misuse};
+use super::misuse::{
+    drop_last, further, last, length_of_other_form, other_form, Misusable, Misuse,
+};
 use crate::random::Random;
 use crate::reference::terms::{refusal, Parameters, MAX_BALLOTS, MAX_M};
 
@@ -44,6 +46,10 @@ impl Misusable for DrawCall {
             length("part one short", |call| drop_last(&mut call.part_one)),
             length("part one long", |call| call.part_one.push(0)),
             length("no part one", |call| call.part_one.clear()),
+            length("part one of the other form", |call| {
+                length_of_other_form(call.parameters.form, &mut call.part_one);
+            }),
+            length("told the other form", |call| other_form(&mut call.parameters.form)),
             die("first die 0", |call| call.dice[0] = b'0'),
             die("last die 7", |call| *last(&mut call.dice) = b'7'),
             die("last die 255", |call| *last(&mut call.dice) = 255),

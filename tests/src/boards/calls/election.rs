@@ -1,7 +1,7 @@
 //! Calls of the election.
 
 use super::inputs::{self, Given};
-use super::misuse::{drop_last, fewer, last, Misusable, Misuse};
+use super::misuse::{drop_last, fewer, last, length_of_other_form, other_form, Misusable, Misuse};
 use crate::boards::{inputs as any_inputs, Draws};
 use crate::random::Random;
 use crate::reference::election::DiceTable;
@@ -119,6 +119,13 @@ fn buffers() -> Vec<Misuse<ElectionCall>> {
         length("join short", |call| drop_last(&mut call.buffers[3])),
         length("join long", |call| call.buffers[3].push(0xA5)),
         length("no join", |call| call.buffers[3].clear()),
+        length("part one of the other form", |call| {
+            length_of_other_form(call.inputs.parameters.form, &mut call.buffers[0]);
+        }),
+        length("join of the other form", |call| {
+            length_of_other_form(call.inputs.parameters.form, &mut call.buffers[3]);
+        }),
+        length("told the other form", |call| other_form(&mut call.inputs.parameters.form)),
     ]
 }
 

@@ -1,7 +1,7 @@
 //! Ways of getting a call refused, alone and two at once.
 
 use crate::random::Random;
-use crate::reference::terms::refusal;
+use crate::reference::terms::{refusal, Form};
 
 /// Values of n, and what is answered to them where every slice is as long as three ballots ask for.
 pub const LIMITS_OF_N: [(u32, u8); 14] = [
@@ -97,6 +97,22 @@ pub fn drop_last<T>(slice: &mut Vec<T>) {
 
 pub fn last<T>(slice: &mut [T]) -> &mut T {
     slice.last_mut().unwrap()
+}
+
+/// The form that it is not.
+pub fn other_form(form: &mut Form) {
+    *form = match form {
+        Form::Unnumbered => Form::Numbered(0x0102_0304),
+        Form::Numbered(_) => Form::Unnumbered,
+    };
+}
+
+/// As long as it would be in the form that it is not.
+pub fn length_of_other_form(form: Form, bytes: &mut Vec<u8>) {
+    match form {
+        Form::Unnumbered => bytes.extend([0xA5; 4]),
+        Form::Numbered(_) => bytes.truncate(bytes.len().saturating_sub(4)),
+    }
 }
 
 /// The mask without its lowest one.

@@ -1,7 +1,7 @@
 //! Calls of the servers' three parts.
 
 use super::inputs::{self, Given};
-use super::misuse::{drop_last, fewer, last, Misusable, Misuse};
+use super::misuse::{drop_last, fewer, last, length_of_other_form, other_form, Misusable, Misuse};
 use crate::boards::{inputs as any_inputs, Draws, BOTH, NEITHER};
 use crate::random::Random;
 use crate::reference::terms::{refusal, Parameters};
@@ -90,6 +90,9 @@ impl Misusable for PartCall {
         if self.lends_part_one() {
             all.extend(part_one());
         }
+        if self.part == 1 || self.lends_part_one() {
+            all.push(told_the_other_form());
+        }
         if self.lends_part_two() {
             all.extend(part_two());
         }
@@ -104,7 +107,17 @@ fn buffer() -> Vec<Misuse<PartCall>> {
         length("buffer short", |call| drop_last(&mut call.out)),
         length("buffer long", |call| call.out.push(0xA5)),
         length("no buffer", |call| call.out.clear()),
+        length("4 bytes of another form", |call| {
+            length_of_other_form(call.inputs.parameters.form, &mut call.out);
+        }),
     ]
+}
+
+/// Rule 18 where part one is written or lent: it has the length of the form that it was made for.
+fn told_the_other_form() -> Misuse<PartCall> {
+    Misuse::new(refusal::LENGTH, "told the other form", |call| {
+        other_form(&mut call.inputs.parameters.form);
+    })
 }
 
 /// Rules 18 and 6 on the dice.
@@ -152,6 +165,9 @@ fn part_one() -> Vec<Misuse<PartCall>> {
         length("part one short", |call| drop_last(&mut call.part_one)),
         length("part one long", |call| call.part_one.push(0)),
         length("no part one", |call| call.part_one.clear()),
+        length("part one of the other form", |call| {
+            length_of_other_form(call.inputs.parameters.form, &mut call.part_one);
+        }),
     ]
 }
 
@@ -165,6 +181,9 @@ fn part_two() -> Vec<Misuse<PartCall>> {
         length("a byte of part one in part two", |call| {
             let byte = call.part_one.pop().unwrap_or(0);
             call.part_two.insert(0, byte);
+        }),
+        length("part two of the other form", |call| {
+            length_of_other_form(call.inputs.parameters.form, &mut call.part_two);
         }),
     ]
 }

@@ -1,13 +1,14 @@
 //! Calls of the tablet.
 
 use super::misuse::{drop_last, Misusable, Misuse};
-use crate::boards::MODULI;
+use crate::boards::{form, MODULI};
 use crate::random::Random;
 use crate::reference::tablet::SplitVote;
-use crate::reference::terms::refusal;
+use crate::reference::terms::{refusal, Form};
 
 #[derive(Clone, Debug)]
 pub struct TabletCall {
+    pub form: Form,
     pub modulus: u32,
     pub id: u32,
     pub split: SplitVote,
@@ -17,8 +18,9 @@ pub struct TabletCall {
 }
 
 impl TabletCall {
-    /// A call that is not refused, noise in its buffers.
+    /// A call that is not refused, of either form, noise in its buffers.
     pub fn honest(random: &mut Random) -> Self {
+        let form = form(random);
         let modulus = random.pick(&MODULI);
         let mut number = || random.number(modulus);
         let split = SplitVote {
@@ -27,6 +29,7 @@ impl TabletCall {
             firsts: [number(), number(), number()],
         };
         TabletCall {
+            form,
             modulus,
             id: random.word() as u32,
             split,

@@ -1,4 +1,4 @@
-//! For each rule of the judge the last accepted and the first refused value.
+//! For each rule of the judge the last accepted and the first refused value, in both forms.
 
 use super::verdict;
 use crate::subject::judge;
@@ -7,28 +7,32 @@ use paddockyear_tests::boards::*;
 use paddockyear_tests::random::Random;
 use paddockyear_tests::reference::drawing::{drawn_mask, drawn_sides, seed};
 use paddockyear_tests::reference::judge::{Fault, Judging, JUDGINGS};
-use paddockyear_tests::reference::terms::{difference, sorted, sum, Opening, Parameters};
-use paddockyear_tests::reference::writer::Secrets;
+use paddockyear_tests::reference::terms::{difference, sorted, sum, Form, Opening, Parameters};
+use paddockyear_tests::reference::writer::{self, Secrets};
 
 const M: u32 = 100;
-const SHAPE: Parameters = Parameters { modulus: M, n: 3, m: 2 };
+const SHAPES: [Parameters; 2] =
+    [Parameters::unnumbered(M, 3, 2), Parameters::numbered(0x0304_0506, M, 3, 2)];
 /// The mask of the forged boards: lists 1 and 2 are compared, 0 and 3 opened.
 const MASK: u32 = 0b0110;
 
-fn secrets(random: &mut Random) -> Secrets {
-    let mut inputs = inputs(random, SHAPE);
+fn secrets(random: &mut Random, shape: Parameters) -> Secrets {
+    let mut inputs = inputs(random, shape);
     inputs.votes = vec![24, 99, 0];
     Secrets::new(&inputs)
 }
 
-/// Both judgings answer `number`, 0 for accepted, after this change.
+/// Both judgings answer `number`, 0 for accepted, after this change to a record of either form.
+#[track_caller]
 fn check(seed: u64, number: u8, change: impl Fn(&mut Forgery)) {
     let random = &mut Random::new(seed);
-    let mut forgery = Forgery::new(secrets(random), MASK);
-    change(&mut forgery);
-    for judging in JUDGINGS {
-        let record = forgery.record(random, judging);
-        assert_eq!(verdict(&record, judging), number, "{judging:?}");
+    for shape in SHAPES {
+        let mut forgery = Forgery::new(secrets(random, shape), MASK);
+        change(&mut forgery);
+        for judging in JUDGINGS {
+            let record = forgery.record(random, judging);
+            assert_eq!(verdict(&record, judging), number, "{judging:?}, {:?}", shape.form);
+        }
     }
 }
 
@@ -48,7 +52,7 @@ fn move_halves(six: &mut [Opening; 6], slot: usize, number: u32) {
 #[test]
 fn rule_1_and_17_the_length() {
     check(100, 0, |_| ());
-    check(100, 1, |f| f.cut(SHAPE.record_length() - 1));
+    check(100, 1, |f| f.cut(f.secrets.parameters.record_length() - 1));
     check(100, 17, |f| f.append(&[0]));
 }
 
@@ -57,25 +61,46 @@ fn rule_3_limits() {
     let random = &mut Random::new(101);
     let many = MANY.map(|n| (2, n, 1));
     for (modulus, n, m) in many.into_iter().chain([(2, 1, 1), (u32::MAX, 1, 12), (2, 2, 12)]) {
-        let record = honest(random, Parameters { modulus, n, m }, BOTH).record();
+        let record = honest(random, Parameters::unnumbered(modulus, n, m), BOTH).record();
         accepted(&record);
     }
-    for (place, bytes) in [(1, &[0, 0, 0, 1][..]), (1, &[0; 4]), (5, &[0, 0]), (5, &[16, 1])] {
-        check(101, 3, |f| f.set(place, bytes));
+    for (place, bytes) in [(0, &[0, 0, 0, 1][..]), (0, &[0; 4]), (4, &[0, 0]), (4, &[16, 1])] {
+        check(101, 3, |f| f.set(f.layout.modulus() + place, bytes));
     }
     for m in [0, 13, 14, 255] {
-        check(101, 3, |f| f.set(7, &[m]));
+        check(101, 3, |f| f.set(f.layout.modulus() + 6, &[m]));
     }
 }
 
-/// Only the limits are tested in 01: a larger n or m makes the next due byte wrong.
+/// Every operand of 0C at its limits beside numbers of elections, of which every one stands.
+#[test]
+fn rule_3_limits_numbered() {
+    let random = &mut Random::new(121);
+    for election in ELECTIONS {
+        for (modulus, n, m) in [(2, 1, 1), (u32::MAX, 2, 12)] {
+            let parameters = Parameters::numbered(election, modulus, n, m);
+            accepted(&honest(random, parameters, BOTH).record());
+        }
+        for (modulus, n, m) in
+            [(1, 1, 1), (0, 1, 1), (2, 0, 1), (2, 4097, 1), (2, 65_535, 1), (2, 1, 0), (2, 1, 13)]
+        {
+            let record = writer::first_command(&Parameters::numbered(election, modulus, n, m));
+            for judging in JUDGINGS {
+                let fault = Fault { number: 3, place: 0 };
+                assert_eq!(judge(&record, judging), Err(fault), "{modulus} {n} {m}");
+            }
+        }
+    }
+}
+
+/// Only the limits are tested in the first command: a larger n or m makes the next due byte wrong.
 #[test]
 fn rule_3_does_not_look_at_the_length() {
     for n in [1024u16, 1025, 4096] {
-        check(102, 2, |f| f.set(5, &n.to_be_bytes()));
+        check(102, 2, |f| f.set(f.layout.modulus() + 4, &n.to_be_bytes()));
         check(102, 1, |f| {
-            f.set(5, &n.to_be_bytes());
-            f.cut(8);
+            f.set(f.layout.modulus() + 4, &n.to_be_bytes());
+            f.cut(f.layout.ballot(0));
         });
     }
 }
@@ -83,11 +108,13 @@ fn rule_3_does_not_look_at_the_length() {
 /// Every n around its limit and some of those above, in a record that stops behind it.
 #[test]
 fn rule_3_every_n() {
-    for n in (0..5_000).chain((5_000..=u16::MAX).step_by(53)) {
-        let record = first_command(n);
-        let (number, place) = if (1..=4096).contains(&n) { (1, 8) } else { (3, 0) };
-        for judging in JUDGINGS {
-            assert_eq!(judge(&record, judging), Err(Fault { number, place }), "n = {n}");
+    for (form, behind) in [(Form::Unnumbered, 8), (Form::Numbered(0x0002_0001), 12)] {
+        for n in (0..5_000).chain((5_000..=u16::MAX).step_by(53)) {
+            let record = first_command(form, n);
+            let (number, place) = if (1..=4096).contains(&n) { (1, behind) } else { (3, 0) };
+            for judging in JUDGINGS {
+                assert_eq!(judge(&record, judging), Err(Fault { number, place }), "n = {n}");
+            }
         }
     }
 }
@@ -96,27 +123,26 @@ fn rule_3_every_n() {
 fn rule_4_operands() {
     for (place, width) in operand_places() {
         for bit in 0..8 * width {
-            check(103, 4, |f| f.flip(place + bit / 8, 1 << (bit % 8)));
+            check(103, 4, |f| f.flip(place(&f.layout) + bit / 8, 1 << (bit % 8)));
         }
     }
 }
 
 /// List, ballot, position and index operands, with their widths; in a link list and ballot.
-fn operand_places() -> Vec<(usize, usize)> {
-    let layout = Layout::new(&SHAPE);
+fn operand_places() -> Vec<(fn(&Layout) -> usize, usize)> {
     vec![
-        (layout.entry(0, 0) + 1, 3),
-        (layout.entry(3, 2) + 1, 3),
-        (layout.link(0, 0) + 1, 3),
-        (layout.link(1, 2) + 1, 3),
-        (layout.ballot_half(0) + 1, 2),
-        (layout.ballot_half(2) + 1, 2),
-        (layout.list_half(0, 0) + 1, 3),
-        (layout.list_half(2, 1) + 1, 3),
-        (layout.vote(0) + 1, 2),
-        (layout.vote(2) + 1, 2),
-        (layout.full_opening(0, 0) + 1, 3),
-        (layout.full_opening(1, 2) + 1, 3),
+        (|layout| layout.entry(0, 0) + 1, 3),
+        (|layout| layout.entry(3, 2) + 1, 3),
+        (|layout| layout.link(0, 0) + 1, 3),
+        (|layout| layout.link(1, 2) + 1, 3),
+        (|layout| layout.ballot_half(0) + 1, 2),
+        (|layout| layout.ballot_half(2) + 1, 2),
+        (|layout| layout.list_half(0, 0) + 1, 3),
+        (|layout| layout.list_half(2, 1) + 1, 3),
+        (|layout| layout.vote(0) + 1, 2),
+        (|layout| layout.vote(2) + 1, 2),
+        (|layout| layout.full_opening(0, 0) + 1, 3),
+        (|layout| layout.full_opening(1, 2) + 1, 3),
     ]
 }
 
@@ -139,17 +165,16 @@ fn rule_5_ids() {
 #[test]
 fn rule_6_dice() {
     let random = &mut Random::new(105);
-    for [first, second] in [[b'1', b'6'], [b'6', b'1']] {
+    for (shape, [first, second]) in SHAPES.into_iter().zip([[b'1', b'6'], [b'6', b'1']]) {
         let dice = [vec![first; 30], vec![second; 30]];
-        let inputs = inputs(random, SHAPE);
+        let inputs = inputs(random, shape);
         let record = board_with_dice(random, &inputs, &dice, BOTH).record();
         accepted(&record);
     }
-    let layout = Layout::new(&SHAPE);
-    for dice in [layout.first_dice(), layout.second_dice()] {
+    for dice in [Layout::first_dice, Layout::second_dice] {
         for die in 1..=30 {
             for character in [0, b'0', b'7', 255] {
-                check(105, 6, |f| f.set(dice + die, &[character]));
+                check(105, 6, |f| f.set(dice(&f.layout) + die, &[character]));
             }
         }
     }
@@ -159,15 +184,17 @@ fn rule_6_dice() {
 #[test]
 fn rule_7_mask_shape() {
     let random = &mut Random::new(106);
-    let place = Layout::new(&SHAPE).first_dice() + 31;
-    let record = Forgery::new(secrets(random), MASK).record(random, Judging::Plain);
-    let high = (4..32).map(|bit| 1 | 1 << bit);
-    for mask in (0..512).chain(high) {
-        let mut record = record.clone();
-        record[place..place + 4].copy_from_slice(&u32::to_be_bytes(mask));
-        let stands = [0b0011, 0b0101, 0b1001, 0b0110, 0b1010, 0b1100].contains(&mask);
-        assert_eq!(verdict(&record, Judging::Plain) == 7, !stands, "mask {mask}");
-        assert_eq!(verdict(&record, Judging::Drawn) == 7, !stands, "mask {mask}");
+    for shape in SHAPES {
+        let place = Layout::new(&shape).first_dice() + 31;
+        let record = Forgery::new(secrets(random, shape), MASK).record(random, Judging::Plain);
+        let high = (4..32).map(|bit| 1 | 1 << bit);
+        for mask in (0..512).chain(high) {
+            let mut record = record.clone();
+            record[place..place + 4].copy_from_slice(&u32::to_be_bytes(mask));
+            let stands = [0b0011, 0b0101, 0b1001, 0b0110, 0b1010, 0b1100].contains(&mask);
+            assert_eq!(verdict(&record, Judging::Plain) == 7, !stands, "mask {mask}");
+            assert_eq!(verdict(&record, Judging::Drawn) == 7, !stands, "mask {mask}");
+        }
     }
 }
 
@@ -175,7 +202,11 @@ fn rule_7_mask_shape() {
 #[test]
 fn rule_8_mask_drawn() {
     let random = &mut Random::new(107);
-    let inputs = inputs(random, SHAPE);
+    SHAPES.into_iter().for_each(|shape| rule_8_mask_drawn_of(random, shape));
+}
+
+fn rule_8_mask_drawn_of(random: &mut Random, shape: Parameters) {
+    let inputs = inputs(random, shape);
     let honest = board(random, &inputs, BOTH);
     let (dice, one) = (&honest.parts[1][1..31], &honest.parts[0]);
     for mask in [0b0011, 0b0101, 0b1001, 0b0110, 0b1010, 0b1100] {
@@ -193,21 +224,21 @@ fn rule_8_mask_drawn() {
 
 #[test]
 fn rule_9_link_positions() {
-    let layout = Layout::new(&SHAPE);
     // Position n - 1 stands in every honest list; in another ballot's link it is taken.
     check(108, 0, |f| assert!(f.secrets.places[1].contains(&2)));
     for rank in 0..2 {
         for ballot in 0..3 {
             for position in [3u16, 4, 256, 1023, 1024, 4095, 4096, 65_535] {
-                let place = layout.link(rank, ballot) + 4;
-                check(108, 9, |f| f.set(place, &position.to_be_bytes()));
+                check(108, 9, |f| {
+                    f.set(f.layout.link(rank, ballot) + 4, &position.to_be_bytes());
+                });
             }
         }
     }
     for (earlier, later) in [(0, 1), (0, 2), (1, 2)] {
         check(108, 9, |f| {
             let taken = f.secrets.places[2][earlier] as u16;
-            f.set(layout.link(1, later) + 4, &taken.to_be_bytes());
+            f.set(f.layout.link(1, later) + 4, &taken.to_be_bytes());
         });
     }
 }
@@ -216,16 +247,17 @@ fn rule_9_link_positions() {
 #[test]
 fn rule_9_other_lists() {
     let random = &mut Random::new(109);
-    let mut inputs = inputs(random, SHAPE);
-    let first = inputs.permutations[..9].to_vec();
-    inputs.permutations = first.repeat(4);
-    let record = board(random, &inputs, BOTH).record();
-    accepted(&record);
+    for shape in SHAPES {
+        let mut inputs = inputs(random, shape);
+        let first = inputs.permutations[..9].to_vec();
+        inputs.permutations = first.repeat(4);
+        let record = board(random, &inputs, BOTH).record();
+        accepted(&record);
+    }
 }
 
 #[test]
 fn rule_10_t() {
-    let layout = Layout::new(&SHAPE);
     for t in [0, 1, M - 1] {
         check(110, 0, |f| {
             // The list's first half takes up what t lacks.
@@ -237,7 +269,7 @@ fn rule_10_t() {
         });
     }
     for t in [M, M + 1, 256 * M, u32::MAX] {
-        check(110, 10, |f| f.set(layout.link(0, 2) + 6, &t.to_be_bytes()));
+        check(110, 10, |f| f.set(f.layout.link(0, 2) + 6, &t.to_be_bytes()));
     }
 }
 
@@ -263,20 +295,19 @@ fn rule_10_opened_numbers() {
 
 #[test]
 fn rule_10_votes() {
-    let vote = Layout::new(&SHAPE).vote(2) + 3;
-    check(112, 0, |f| f.set(vote, &(M - 1).to_be_bytes()));
-    check(112, 10, |f| f.set(vote, &M.to_be_bytes()));
-    check(112, 10, |f| f.set(vote, &[255; 4]));
+    check(112, 0, |f| f.set(f.layout.vote(2) + 3, &(M - 1).to_be_bytes()));
+    check(112, 10, |f| f.set(f.layout.vote(2) + 3, &M.to_be_bytes()));
+    check(112, 10, |f| f.set(f.layout.vote(2) + 3, &[255; 4]));
 }
 
 /// At the largest modulus only the highest number is refused.
 #[test]
 fn rule_10_largest_modulus() {
     let random = &mut Random::new(113);
-    let mut inputs = inputs(random, Parameters { modulus: u32::MAX, n: 2, m: 1 });
-    inputs.votes = vec![u32::MAX - 1; 2];
-    let secrets = Secrets::new(&inputs);
-    for judging in JUDGINGS {
+    for (form, judging) in FORMS.into_iter().flat_map(|form| JUDGINGS.map(|one| (form, one))) {
+        let mut inputs = inputs(random, Parameters { form, modulus: u32::MAX, n: 2, m: 1 });
+        inputs.votes = vec![u32::MAX - 1; 2];
+        let secrets = Secrets::new(&inputs);
         let mut forgery = Forgery::new(secrets.clone(), 1);
         let record = forgery.record(random, judging);
         assert_eq!(judge(&record, judging), Ok(vec![u32::MAX - 1; 2]));
@@ -288,7 +319,11 @@ fn rule_10_largest_modulus() {
 #[test]
 fn rule_11_side_bytes() {
     let random = &mut Random::new(114);
-    let secrets = secrets(random);
+    SHAPES.into_iter().for_each(|shape| rule_11_side_bytes_of(random, shape));
+}
+
+fn rule_11_side_bytes_of(random: &mut Random, shape: Parameters) {
+    let secrets = secrets(random, shape);
     let dice = random.dice();
     let before = [secrets.part_one(), secrets.part_two(&dice, MASK)].concat();
     for ballot in 0..3 {
@@ -298,9 +333,8 @@ fn rule_11_side_bytes() {
             let record = [&before[..], &secrets.part_three(&dice, MASK, &sides)].concat();
             assert_eq!(verdict(&record, Judging::Plain), 0);
         }
-        let place = Layout::new(&SHAPE).ballot_half(ballot) + 3;
         for side in [2, 3, 128, 255] {
-            check(114, 11, |f| f.set(place, &[side]));
+            check(114, 11, |f| f.set(f.layout.ballot_half(ballot) + 3, &[side]));
         }
     }
 }
@@ -309,10 +343,14 @@ fn rule_11_side_bytes() {
 #[test]
 fn rule_12_side_drawn() {
     let random = &mut Random::new(115);
-    let inputs = inputs(random, SHAPE);
+    SHAPES.into_iter().for_each(|shape| rule_12_side_drawn_of(random, shape));
+}
+
+fn rule_12_side_drawn_of(random: &mut Random, shape: Parameters) {
+    let inputs = inputs(random, shape);
     let honest = board(random, &inputs, BOTH);
     let [one, two, three] = &honest.parts;
-    let layout = Layout::new(&SHAPE);
+    let layout = Layout::new(&shape);
     let start = one.len() + two.len();
     for ballot in 0..3 {
         let mut sides: Vec<u8> = (0..3).map(|j| three[layout.ballot_half(j) + 3 - start]).collect();
@@ -327,52 +365,55 @@ fn rule_12_side_drawn() {
 
 #[test]
 fn rule_13_openings() {
-    let layout = Layout::new(&SHAPE);
     for opening in 0..3 {
         for byte in 0..32 {
-            check(116, 13, |f| f.flip(layout.ballot_half(1) + 4 + 36 * opening + byte, 1));
-            check(116, 13, |f| f.flip(layout.list_half(1, 1) + 4 + 36 * opening + byte, 1));
+            check(116, 13, |f| f.flip(f.layout.ballot_half(1) + 4 + 36 * opening + byte, 1));
+            check(116, 13, |f| f.flip(f.layout.list_half(1, 1) + 4 + 36 * opening + byte, 1));
         }
     }
     for opening in 0..6 {
         for byte in 0..32 {
-            check(116, 13, |f| f.flip(layout.full_opening(1, 1) + 4 + 36 * opening + byte, 1));
+            check(116, 13, |f| f.flip(f.layout.full_opening(1, 1) + 4 + 36 * opening + byte, 1));
         }
     }
 }
 
 #[test]
 fn rule_14_halves() {
-    let layout = Layout::new(&SHAPE);
     for (shift, number) in [(0, 0), (1, 14), (M - 1, 14), (M / 2, 14)] {
         check(117, number, |f| {
             let t = sum(M, &[f.secrets.t(2, 1), shift]);
-            f.set(layout.link(1, 1) + 6, &t.to_be_bytes());
+            f.set(f.layout.link(1, 1) + 6, &t.to_be_bytes());
         });
     }
 }
 
 #[test]
 fn rule_15_votes() {
-    let layout = Layout::new(&SHAPE);
-    check(118, 15, |f| f.set(layout.vote(2) + 3, &23u32.to_be_bytes()));
+    check(118, 15, |f| f.set(f.layout.vote(2) + 3, &23u32.to_be_bytes()));
     // Equal and rising ones stand; that they are not the list's values shows at the last 0A.
-    check(118, 16, |f| f.set(layout.vote(2) + 3, &24u32.to_be_bytes()));
-    check(118, 16, |f| f.set(layout.vote(2) + 3, &25u32.to_be_bytes()));
+    check(118, 16, |f| f.set(f.layout.vote(2) + 3, &24u32.to_be_bytes()));
+    check(118, 16, |f| f.set(f.layout.vote(2) + 3, &25u32.to_be_bytes()));
     let random = &mut Random::new(118);
-    let mut inputs = inputs(random, SHAPE);
-    inputs.votes = vec![5; 3];
-    let record = board(random, &inputs, BOTH).record();
-    accepted(&record);
+    for shape in SHAPES {
+        let mut inputs = inputs(random, shape);
+        inputs.votes = vec![5; 3];
+        let record = board(random, &inputs, BOTH).record();
+        accepted(&record);
+    }
 }
 
 /// 2, 2, 5 and 2, 5, 5 are not alike.
 #[test]
 fn rule_16_counts() {
     let random = &mut Random::new(119);
-    let mut inputs = inputs(random, SHAPE);
+    SHAPES.into_iter().for_each(|shape| rule_16_counts_of(random, shape));
+}
+
+fn rule_16_counts_of(random: &mut Random, shape: Parameters) {
+    let mut inputs = inputs(random, shape);
     inputs.votes = vec![2, 5, 5];
-    let layout = Layout::new(&SHAPE);
+    let layout = Layout::new(&shape);
     for (votes, number) in [([2u32, 5, 5], 0), ([2, 2, 5], 16), ([2, 5, 6], 16), ([5, 5, 5], 16)] {
         let mut forgery = Forgery::new(Secrets::new(&inputs), MASK);
         forgery.secrets.votes = votes.to_vec();
@@ -389,9 +430,13 @@ fn rule_16_counts() {
 #[test]
 fn rule_16_every_bit() {
     let random = &mut Random::new(120);
-    let mut inputs = inputs(random, Parameters { modulus: u32::MAX, ..SHAPE });
+    SHAPES.into_iter().for_each(|shape| rule_16_every_bit_of(random, shape));
+}
+
+fn rule_16_every_bit_of(random: &mut Random, shape: Parameters) {
+    let mut inputs = inputs(random, Parameters { modulus: u32::MAX, ..shape });
     inputs.votes = vec![0x0102_0304, 0x1122_3344, 0x7654_3210];
-    let fault = Fault { number: 16, place: Layout::new(&SHAPE).full_opening(0, 2) };
+    let fault = Fault { number: 16, place: Layout::new(&shape).full_opening(0, 2) };
     for bit in 0..32 {
         let mut forgery = Forgery::new(Secrets::new(&inputs), MASK);
         forgery.secrets.votes[1] ^= 1 << bit;

@@ -29,8 +29,12 @@ impl Posted {
     }
 
     fn of_shape(seed: u64, n: u32, m: u32) -> Self {
+        Self::of(seed, Parameters::unnumbered(M, n, m))
+    }
+
+    fn of(seed: u64, parameters: Parameters) -> Self {
         let random = &mut Random::new(seed);
-        let inputs = inputs(random, Parameters { modulus: M, n, m });
+        let inputs = inputs(random, parameters);
         Self::new(random, &inputs)
     }
 
@@ -74,6 +78,12 @@ fn largest() -> &'static Posted {
     POSTED.get_or_init(|| Posted::of_shape(130, MOST as u32, 1))
 }
 
+/// The same of a numbered election.
+fn largest_numbered() -> &'static Posted {
+    static POSTED: OnceLock<Posted> = OnceLock::new();
+    POSTED.get_or_init(|| Posted::of(141, Parameters::numbered(0xFF00_10FF, M, MOST as u32, 1)))
+}
+
 /// Both judgings accept the board of these inputs.
 fn accepted(random: &mut Random, inputs: &Inputs) {
     let record = board(random, inputs, BOTH).record();
@@ -89,7 +99,7 @@ fn positions_that_end_alike() {
     for rows in [4, 16] {
         let place = |j: usize| j % rows * (MOST / rows) + j / rows;
         assert_eq!((place(1), place(rows)), (MOST / rows, 1));
-        let parameters = Parameters { modulus: M, n: MOST as u32, m: 1 };
+        let parameters = Parameters::unnumbered(M, MOST as u32, 1);
         let inputs = inputs_with_places(random, parameters, place);
         accepted(random, &inputs);
     }
@@ -99,7 +109,7 @@ fn positions_that_end_alike() {
 #[test]
 fn positions_of_other_lists() {
     let random = &mut Random::new(132);
-    let parameters = Parameters { modulus: M, n: 1025, m: 2 };
+    let parameters = Parameters::unnumbered(M, 1025, 2);
     let inputs = inputs_with_places(random, parameters, |j| 1024 - j);
     accepted(random, &inputs);
 }
@@ -145,17 +155,37 @@ fn rule_4_later_commands() {
             posted.operand_counts(Judging::Plain, operand, due);
         }
     }
+    let numbered = Posted::of(142, Parameters::numbered(257, M, 257, 1));
+    for place in [255, 256] {
+        for (operand, due) in later_commands(&numbered, place) {
+            numbered.operand_counts(Judging::Plain, operand, due);
+        }
+    }
 }
 
 /// Of the most ballots' last place, without its high byte and with its bytes exchanged.
 #[test]
 fn rule_4_last_place() {
-    let posted = largest();
-    for ((command, offset), due) in later_commands(posted, MOST - 1) {
-        assert_eq!(posted.operand(command + offset), due);
-        for bytes in [[0x00, 0xFF], [0xFF, 0x0F]] {
-            posted.refused(Judging::Drawn, (command + offset, &bytes), 4, command);
+    for posted in [largest(), largest_numbered()] {
+        for ((command, offset), due) in later_commands(posted, MOST - 1) {
+            assert_eq!(posted.operand(command + offset), due);
+            for bytes in [[0x00, 0xFF], [0xFF, 0x0F]] {
+                posted.refused(Judging::Drawn, (command + offset, &bytes), 4, command);
+            }
         }
+    }
+}
+
+/// A ballot more than there may be, and each of fewer, in the first command of a numbered election.
+#[test]
+fn rule_3_numbered() {
+    let posted = largest_numbered();
+    for n in [0u16, 4097, 0x1100, 0x8000, u16::MAX] {
+        posted.refused(Judging::Plain, (9, &n.to_be_bytes()), 3, 0);
+    }
+    for n in [1u16, 256, 1024, 4095] {
+        let behind = 12 + 197 * usize::from(n);
+        posted.refused(Judging::Plain, (9, &n.to_be_bytes()), 2, behind);
     }
 }
 
@@ -192,9 +222,11 @@ fn rule_9_positions_taken() {
         }
     }
     assert!(checked >= 26);
-    let first = posted.position(0);
-    let command = posted.layout.link(0, last);
-    posted.refused(Judging::Drawn, (command + 4, &first.to_be_bytes()), 9, command);
+    for posted in [posted, largest_numbered()] {
+        let first = posted.position(0);
+        let command = posted.layout.link(0, last);
+        posted.refused(Judging::Drawn, (command + 4, &first.to_be_bytes()), 9, command);
+    }
 }
 
 /// A position that differs from a taken one by a byte or a bit alone is free, until its own ballot
@@ -254,7 +286,7 @@ fn rule_14_far_ballots() {
 #[test]
 fn rules_15_and_16_far_votes() {
     let random = &mut Random::new(139);
-    let mut inputs = inputs(random, Parameters { modulus: M, n: MOST as u32, m: 1 });
+    let mut inputs = inputs(random, Parameters::unnumbered(M, MOST as u32, 1));
     inputs.votes = random.permutation(MOST).iter().map(|&k| u32::from(k) << 20).collect();
     let posted = Posted::new(random, &inputs);
     let opened = posted.layout.full_opening(0, MOST - 1);
@@ -270,7 +302,7 @@ fn rules_15_and_16_far_votes() {
 #[test]
 fn votes_in_any_order() {
     let random = &mut Random::new(140);
-    let parameters = Parameters { modulus: M, n: MOST as u32, m: 1 };
+    let parameters = Parameters::unnumbered(M, MOST as u32, 1);
     for vote in [|j: u32| 1_000_000 - j, |_: u32| M - 1, |j: u32| j % 1024 << 20] {
         let mut inputs = inputs_with_places(random, parameters, |j| j);
         inputs.votes = (0..MOST as u32).map(vote).collect();

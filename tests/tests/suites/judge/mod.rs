@@ -2,6 +2,7 @@
 
 mod boundaries;
 mod damaged;
+mod forms;
 mod honest;
 mod many_ballots;
 

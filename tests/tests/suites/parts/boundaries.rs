@@ -1,14 +1,14 @@
-//! For each rule of the parts the last accepted and the first refused value.
+//! For each rule of the parts the last accepted and the first refused value, in both forms.
 
-use super::{answer, calls, check};
+use super::{answer, calls, calls_of_both_forms, check};
 use paddockyear_tests::boards::calls::misuse::LIMITS_OF_N;
 use paddockyear_tests::boards::calls::parts::{PartCall, KINDS};
-use paddockyear_tests::boards::still_inputs;
+use paddockyear_tests::boards::{still_inputs, ELECTIONS};
 use paddockyear_tests::random::Random;
 use paddockyear_tests::reference::terms::Parameters;
 
 const M: u32 = 100;
-const SHAPE: Parameters = Parameters { modulus: M, n: 3, m: 2 };
+const SHAPE: Parameters = Parameters::unnumbered(M, 3, 2);
 
 /// Every slice is as long as the parameters ask for, and nothing else is broken.
 #[test]
@@ -29,9 +29,32 @@ fn rule_3_limits() {
         (1, 0, 13, 3),
     ] {
         for kind in KINDS {
-            let inputs = still_inputs(random, Parameters { modulus, n, m });
+            let inputs = still_inputs(random, Parameters::unnumbered(modulus, n, m));
             let call = PartCall::of(random, inputs, kind);
             assert_eq!(answer(call), number, "{kind:?}: {modulus} {n} {m}");
+        }
+    }
+}
+
+/// Every number of an election stands beside them.
+#[test]
+fn rule_3_limits_numbered() {
+    let random = &mut Random::new(213);
+    for (modulus, n, m, number) in [
+        (2, 1, 1, 0),
+        (u32::MAX, 1, 12, 0),
+        (1, 1, 1, 3),
+        (0, 1, 1, 3),
+        (2, 0, 1, 3),
+        (2, 4097, 1, 3),
+        (2, 1, 0, 3),
+        (2, 1, 13, 3),
+    ] {
+        for (kind, election) in KINDS.into_iter().zip(ELECTIONS.into_iter().cycle()) {
+            let parameters = Parameters::numbered(election, modulus, n, m);
+            let inputs = still_inputs(random, parameters);
+            let call = PartCall::of(random, inputs, kind);
+            assert_eq!(answer(call), number, "{kind:?}: {parameters:?}");
         }
     }
 }
@@ -39,7 +62,7 @@ fn rule_3_limits() {
 /// Before 18.
 #[test]
 fn rule_3_n_alone() {
-    for call in calls(229, SHAPE) {
+    for call in calls_of_both_forms(229, SHAPE) {
         for (n, number) in LIMITS_OF_N {
             check(&call, number, |call| call.inputs.parameters.n = n);
         }
@@ -49,7 +72,7 @@ fn rule_3_n_alone() {
 /// Two slices of wrong lengths that are right together.
 #[test]
 fn rule_18_sums() {
-    for call in calls(211, SHAPE) {
+    for call in calls_of_both_forms(211, SHAPE) {
         check(&call, 18, |call| {
             let id = call.inputs.ids.pop().unwrap();
             call.inputs.votes.push(id % M);
@@ -69,7 +92,7 @@ fn rule_18_sums() {
 
 #[test]
 fn rule_5_ids() {
-    for call in calls(212, SHAPE) {
+    for call in calls_of_both_forms(212, SHAPE) {
         for (ids, number) in [
             ([0, 1, 2], 0),
             ([0, 1, u32::MAX], 0),
@@ -88,7 +111,7 @@ fn rule_5_ids() {
 
 #[test]
 fn rule_6_dice() {
-    for call in calls(214, SHAPE).iter().filter(|call| call.has_dice()) {
+    for call in calls_of_both_forms(214, SHAPE).iter().filter(|call| call.has_dice()) {
         for die in 0..30 {
             for (character, number) in
                 [(b'1', 0), (b'6', 0), (b'0', 6), (b'7', 6), (0, 6), (1, 6), (6, 6), (255, 6)]
@@ -102,7 +125,7 @@ fn rule_6_dice() {
 /// Every mask of nine bits, and each single high bit.
 #[test]
 fn rule_7_mask_shape() {
-    for call in calls(215, SHAPE).iter().filter(|call| call.has_mask()) {
+    for call in calls_of_both_forms(215, SHAPE).iter().filter(|call| call.has_mask()) {
         let high = (4..32).map(|bit| 1 | 1 << bit);
         for mask in (0..512).chain(high) {
             let stands = [0b0011, 0b0101, 0b1001, 0b0110, 0b1010, 0b1100].contains(&mask);
@@ -130,7 +153,7 @@ fn rule_7_fewest_and_most_lists() {
             ],
         ),
     ] {
-        let calls = calls(216, Parameters { modulus: M, n: 2, m });
+        let calls = calls_of_both_forms(216, Parameters::unnumbered(M, 2, m));
         for call in calls.iter().filter(|call| call.has_mask()) {
             for &(mask, number) in masks {
                 check(call, number, |call| call.mask = mask);
@@ -142,7 +165,7 @@ fn rule_7_fewest_and_most_lists() {
 /// Every vote and every number.
 #[test]
 fn rule_10_numbers() {
-    for call in calls(217, SHAPE) {
+    for call in calls_of_both_forms(217, SHAPE) {
         for (number, refusal) in [(0, 0), (M - 1, 0), (M, 10), (u32::MAX, 10)] {
             for vote in 0..call.inputs.votes.len() {
                 check(&call, refusal, |call| call.inputs.votes[vote] = number);
@@ -158,7 +181,7 @@ fn rule_10_numbers() {
 #[test]
 fn rule_10_largest_and_smallest_modulus() {
     for (modulus, highest) in [(u32::MAX, u32::MAX - 1), (2, 1)] {
-        for call in calls(218, Parameters { modulus, n: 2, m: 1 }) {
+        for call in calls_of_both_forms(218, Parameters::unnumbered(modulus, 2, 1)) {
             for place in 0..call.inputs.numbers.len() {
                 check(&call, 0, |call| call.inputs.numbers[place] = highest);
                 check(&call, 10, |call| call.inputs.numbers[place] = highest + 1);
@@ -171,7 +194,7 @@ fn rule_10_largest_and_smallest_modulus() {
 
 #[test]
 fn rule_11_sides() {
-    for call in calls(219, SHAPE).iter().filter(|call| call.has_sides()) {
+    for call in calls_of_both_forms(219, SHAPE).iter().filter(|call| call.has_sides()) {
         for ballot in 0..3 {
             for side in 0..=255 {
                 check(call, if side <= 1 { 0 } else { 11 }, |call| call.sides[ballot] = side);
@@ -183,7 +206,7 @@ fn rule_11_sides() {
 /// Every place of every permutation.
 #[test]
 fn rule_19_permutations() {
-    for call in calls(225, SHAPE) {
+    for call in calls_of_both_forms(225, SHAPE) {
         for place in 0..call.inputs.permutations.len() {
             let from = call.inputs.permutations[place];
             for other in [0, 1, 2, 3, 4, 256, 1023, 1024, 4095, 4096, u16::MAX] {
@@ -197,7 +220,7 @@ fn rule_19_permutations() {
 /// Two permutations that are none, though together they have each place twice; and all others are.
 #[test]
 fn rule_19_together() {
-    for call in calls(226, SHAPE) {
+    for call in calls_of_both_forms(226, SHAPE) {
         for first in (0..36).step_by(3) {
             let second = (first + 3) % 36;
             check(&call, 19, |call| {
@@ -214,12 +237,12 @@ fn rule_19_together() {
 
 #[test]
 fn rule_19_fewest_and_most_places() {
-    for call in calls(227, Parameters { modulus: M, n: 1, m: 1 }) {
+    for call in calls_of_both_forms(227, Parameters::unnumbered(M, 1, 1)) {
         for place in 0..6 {
             check(&call, 19, |call| call.inputs.permutations[place] = 1);
         }
     }
-    for call in calls(228, Parameters { modulus: M, n: 4096, m: 1 }) {
+    for call in calls(228, Parameters::unnumbered(M, 4096, 1)) {
         for start in [0, 5 * 4096] {
             for rows in [(0..4096).collect::<Vec<u16>>(), (0..4096).rev().collect()] {
                 check(&call, 0, |call| {

@@ -9,9 +9,9 @@ use paddockyear_tests::boards::calls::misuse::{
     check_each, check_pairs, misuse_at_random, LIMITS_OF_N,
 };
 use paddockyear_tests::boards::calls::parts::PartCall;
-use paddockyear_tests::boards::{modulus, parameters, BOTH, MANY};
+use paddockyear_tests::boards::{form, modulus, parameters, BOTH, ELECTIONS, FORMS, MANY};
 use paddockyear_tests::random::Random;
-use paddockyear_tests::reference::terms::{mask_stands, Parameters};
+use paddockyear_tests::reference::terms::{mask_stands, Form, Parameters};
 use paddockyear_tests::reference::writer::mask_of;
 
 fn draw(call: &DrawCall) -> Result<u32, u8> {
@@ -23,9 +23,9 @@ fn answer(call: DrawCall) -> u8 {
 }
 
 /// It is the mask that part two draws from the same dice and the same part one.
-fn part_two_draws_it(random: &mut Random, n: u32, m: u32) {
+fn part_two_draws_it(random: &mut Random, form: Form, n: u32, m: u32) {
     let modulus = modulus(random);
-    let mut two = PartCall::honest(random, Parameters { modulus, n, m }, (2, BOTH));
+    let mut two = PartCall::honest(random, Parameters { form, modulus, n, m }, (2, BOTH));
     run(&mut two).unwrap();
     let mask = mask_entry(&two.inputs.parameters, &two.dice, &two.part_one).unwrap();
     assert_eq!(mask, mask_of(&two.out));
@@ -37,8 +37,8 @@ fn part_two_draws_the_same() {
     let random = &mut Random::new(220);
     for m in 1..=12 {
         for _ in 0..12 {
-            let n = 1 + random.number(9);
-            part_two_draws_it(random, n, m);
+            let (form, n) = (form(random), 1 + random.number(9));
+            part_two_draws_it(random, form, n, m);
         }
     }
 }
@@ -47,18 +47,30 @@ fn part_two_draws_the_same() {
 fn part_two_draws_the_same_of_many_ballots() {
     let random = &mut Random::new(275);
     for n in MANY {
-        part_two_draws_it(random, n, 3);
+        part_two_draws_it(random, Form::Unnumbered, n, 3);
     }
+    part_two_draws_it(random, Form::Numbered(257), 257, 3);
 }
 
-/// Another byte of part one, or another die, makes another mask; another modulus does not.
+/// Another byte of part one, or another die, makes another mask; another modulus does not, nor
+/// does another election's number.
 #[test]
 fn what_counts() {
     let random = &mut Random::new(221);
-    let parameters = Parameters { modulus: 100, n: 3, m: 12 };
+    for form in FORMS {
+        what_counts_in(random, Parameters { form, modulus: 100, n: 3, m: 12 });
+    }
+    let call = DrawCall::honest(random, Parameters::numbered(1, 100, 3, 12));
+    for election in ELECTIONS {
+        let parameters = Parameters { form: Form::Numbered(election), ..call.parameters };
+        assert_eq!(draw(&DrawCall { parameters, ..call.clone() }), draw(&call));
+    }
+}
+
+fn what_counts_in(random: &mut Random, parameters: Parameters) {
     let call = DrawCall::honest(random, parameters);
     let mask = draw(&call);
-    for place in [0, 1, 1000, call.part_one.len() - 1] {
+    for place in (0..12).chain([1000, call.part_one.len() - 1]) {
         let mut other = call.clone();
         other.part_one[place] ^= 1;
         assert_ne!(draw(&other), mask);
@@ -76,11 +88,14 @@ fn what_counts() {
 fn refusals() {
     let random = &mut Random::new(222);
     for (n, m) in [(1, 1), (3, 2), (4, 12), (1024, 12), (4096, 1)] {
-        check_each(&DrawCall::honest(random, Parameters { modulus: 100, n, m }), answer);
+        check_each(&DrawCall::honest(random, Parameters::unnumbered(100, n, m)), answer);
     }
-    for (n, m) in [(1, 1), (3, 2)] {
-        check_pairs(&DrawCall::honest(random, Parameters { modulus: 100, n, m }), answer);
+    for (form, (n, m)) in FORMS.into_iter().flat_map(|form| [(1, 1), (3, 2)].map(|s| (form, s))) {
+        let call = DrawCall::honest(random, Parameters { form, modulus: 100, n, m });
+        check_each(&call, answer);
+        check_pairs(&call, answer);
     }
+    check_each(&DrawCall::honest(random, Parameters::numbered(u32::MAX, 100, 4096, 1)), answer);
     let mut answers = BTreeSet::new();
     for _ in 0..500 {
         let parameters = parameters(random, 6, 12);
@@ -107,8 +122,10 @@ fn limits() {
         (2, 1, 0, 3),
         (2, 1, 13, 3),
     ] {
-        let call = DrawCall::honest(random, Parameters { modulus, n, m });
-        assert_eq!(answer(call), number, "{modulus} {n} {m}");
+        for form in FORMS {
+            let call = DrawCall::honest(random, Parameters { form, modulus, n, m });
+            assert_eq!(answer(call), number, "{form:?} {modulus} {n} {m}");
+        }
     }
 }
 
@@ -116,25 +133,36 @@ fn limits() {
 #[test]
 fn limits_of_n() {
     let random = &mut Random::new(276);
-    let call = DrawCall::honest(random, Parameters { modulus: 9, n: 3, m: 1 });
-    for (n, number) in LIMITS_OF_N {
-        let parameters = Parameters { n, ..call.parameters };
-        assert_eq!(answer(DrawCall { parameters, ..call.clone() }), number, "n = {n}");
+    for form in FORMS {
+        let call = DrawCall::honest(random, Parameters { form, modulus: 9, n: 3, m: 1 });
+        for (n, number) in LIMITS_OF_N {
+            let parameters = Parameters { n, ..call.parameters };
+            assert_eq!(answer(DrawCall { parameters, ..call.clone() }), number, "n = {n}");
+        }
     }
 }
 
 /// The longest part one that a mask is drawn on.
 #[test]
 fn longest_of_many_ballots() {
-    let call = DrawCall::honest(&mut Random::new(277), Parameters { modulus: 2, n: 4096, m: 12 });
+    let call = DrawCall::honest(&mut Random::new(277), Parameters::unnumbered(2, 4096, 12));
     assert_eq!(call.part_one.len(), 20_074_504);
+    assert_eq!(answer(call), 0);
+}
+
+/// The first byte that does not go into the hash of a part one of the other form.
+#[test]
+fn longest_of_many_ballots_numbered() {
+    let parameters = Parameters::numbered(0, 2, 4096, 12);
+    let call = DrawCall::honest(&mut Random::new(279), parameters);
+    assert_eq!(call.part_one.len(), 20_074_508);
     assert_eq!(answer(call), 0);
 }
 
 #[test]
 fn dice() {
     let random = &mut Random::new(224);
-    let call = DrawCall::honest(random, Parameters { modulus: 9, n: 2, m: 1 });
+    let call = DrawCall::honest(random, Parameters::unnumbered(9, 2, 1));
     for die in 0..30 {
         for character in 0..=255 {
             let mut call = call.clone();

@@ -11,7 +11,7 @@ const M: u32 = 100;
 const MOST: usize = 4096;
 
 fn most_ballots(seed: u64) -> Vec<PartCall> {
-    calls(seed, Parameters { modulus: M, n: MOST as u32, m: 1 })
+    calls(seed, Parameters::unnumbered(M, MOST as u32, 1))
 }
 
 /// With another value at this place of what it is given, the call is refused. It is changed back,
@@ -31,8 +31,17 @@ fn refused<T>(
 /// Of the kind that is lent most.
 #[test]
 fn every_misuse() {
-    let parameters = Parameters { modulus: M, n: MOST as u32, m: 1 };
+    let parameters = Parameters::unnumbered(M, MOST as u32, 1);
     check_each(&PartCall::honest(&mut Random::new(270), parameters, (3, BOTH)), answer);
+}
+
+/// Part one of a numbered election, and part two that is drawn on it.
+#[test]
+fn every_misuse_numbered() {
+    for (kind, n) in [((1, BOTH), MOST as u32), ((2, BOTH), 257)] {
+        let parameters = Parameters::numbered(u32::MAX, M, n, 1);
+        check_each(&PartCall::honest(&mut Random::new(278), parameters, kind), answer);
+    }
 }
 
 /// An id that is not above the one before, far behind.
@@ -67,7 +76,7 @@ fn rules_10_and_11_far_numbers() {
 /// A far place is left out of a permutation for one that it may be taken for.
 #[test]
 fn rule_19_far_places() {
-    let former = calls(273, Parameters { modulus: M, n: 1025, m: 1 });
+    let former = calls(273, Parameters::unnumbered(M, 1025, 1));
     for mut call in former.into_iter().chain(most_ballots(274)) {
         let before = call.clone();
         let n = call.inputs.parameters.ballots();

@@ -2,12 +2,14 @@
 
 mod boundaries;
 mod draw;
+mod forms;
 mod many_ballots;
 mod records;
 mod refusals;
 
 use crate::subject::{part_one, part_three, part_two};
 use paddockyear_tests::boards::calls::parts::{PartCall, KINDS};
+use paddockyear_tests::boards::FORMS;
 use paddockyear_tests::random::Random;
 use paddockyear_tests::reference::terms::Parameters;
 use paddockyear_tests::reference::writer::{MaskSource, SidesSource};
@@ -42,6 +44,11 @@ fn answer(mut call: PartCall) -> u8 {
 fn calls(seed: u64, parameters: Parameters) -> Vec<PartCall> {
     let random = &mut Random::new(seed);
     KINDS.iter().map(|&kind| PartCall::honest(random, parameters, kind)).collect()
+}
+
+/// A call of each kind in each form, whichever the parameters' own.
+fn calls_of_both_forms(seed: u64, parameters: Parameters) -> Vec<PartCall> {
+    FORMS.iter().flat_map(|&form| calls(seed, Parameters { form, ..parameters })).collect()
 }
 
 /// The call answers `number`, 0 for done, after this change.

@@ -7,7 +7,7 @@ use paddockyear_tests::boards::*;
 use paddockyear_tests::random::Random;
 use paddockyear_tests::reference::drawing::{drawn_mask, drawn_sides, seed};
 use paddockyear_tests::reference::judge::{judge, Judging};
-use paddockyear_tests::reference::terms::{sorted, Parameters};
+use paddockyear_tests::reference::terms::{sorted, Form, Parameters};
 use paddockyear_tests::reference::writer::{mask_of, Inputs, MaskSource, SidesSource};
 
 /// Writes the parts into noise, each draw made on those written before, and judges their join.
@@ -41,9 +41,9 @@ fn check(random: &mut Random, inputs: &Inputs, draws: Draws) {
     }
 }
 
-fn check_shape(random: &mut Random, n: u32, m: u32, draws: Draws) {
+fn check_shape(random: &mut Random, form: Form, (n, m): (u32, u32), draws: Draws) {
     let modulus = modulus(random);
-    let inputs = inputs(random, Parameters { modulus, n, m });
+    let inputs = inputs(random, Parameters { form, modulus, n, m });
     check(random, &inputs, draws);
 }
 
@@ -52,8 +52,8 @@ fn of_up_to_40_ballots() {
     let random = &mut Random::new(200);
     for n in 1..=40 {
         for draws in ALL_DRAWS {
-            let m = 1 + random.number(12);
-            check_shape(random, n, m, draws);
+            let (form, m) = (form(random), 1 + random.number(12));
+            check_shape(random, form, (n, m), draws);
         }
     }
 }
@@ -64,9 +64,9 @@ fn of_every_number_of_lists() {
     let random = &mut Random::new(201);
     for m in 1..=12 {
         for modulus in MODULI {
-            for draws in ALL_DRAWS {
+            for (form, draws) in FORMS.into_iter().cycle().zip(ALL_DRAWS) {
                 let n = 1 + random.number(6);
-                let inputs = inputs(random, Parameters { modulus, n, m });
+                let inputs = inputs(random, Parameters { form, modulus, n, m });
                 check(random, &inputs, draws);
             }
         }
@@ -79,10 +79,17 @@ fn of_many_ballots() {
     let random = &mut Random::new(202);
     for n in MANY.into_iter().chain([1000, 1024]) {
         for draws in [NEITHER, BOTH] {
-            check_shape(random, n, 1, draws);
+            check_shape(random, Form::Unnumbered, (n, 1), draws);
         }
     }
-    check_shape(random, 4096, 12, BOTH);
+    check_shape(random, Form::Unnumbered, (4096, 12), BOTH);
+}
+
+#[test]
+fn of_many_ballots_numbered() {
+    let random = &mut Random::new(208);
+    check_shape(random, Form::Numbered(1), (257, 2), NEITHER);
+    check_shape(random, Form::Numbered(u32::MAX), (4096, 1), BOTH);
 }
 
 /// Numbers at both ends of their range, so that sums wrap or just do not.
@@ -91,7 +98,8 @@ fn of_numbers_at_the_limits() {
     let random = &mut Random::new(203);
     for modulus in MODULI {
         for draws in ALL_DRAWS {
-            let mut inputs = inputs(random, Parameters { modulus, n: 9, m: 2 });
+            let form = form(random);
+            let mut inputs = inputs(random, Parameters { form, modulus, n: 9, m: 2 });
             let ends = [0, 1, modulus - 2, modulus - 1];
             inputs.votes.iter_mut().for_each(|vote| *vote = random.pick(&ends));
             inputs.numbers.iter_mut().for_each(|number| *number = random.pick(&ends));
@@ -104,8 +112,8 @@ fn of_numbers_at_the_limits() {
 #[test]
 fn of_inputs_at_the_limits() {
     let random = &mut Random::new(204);
-    for draws in ALL_DRAWS {
-        let mut inputs = still_inputs(random, Parameters { modulus: 2, n: 5, m: 3 });
+    for (form, draws) in FORMS.into_iter().flat_map(|form| ALL_DRAWS.map(|draws| (form, draws))) {
+        let mut inputs = still_inputs(random, Parameters { form, modulus: 2, n: 5, m: 3 });
         check(random, &inputs, draws);
         inputs.ids = vec![0, 1, 1 << 16, u32::MAX - 1, u32::MAX];
         inputs.keys.fill(0);
@@ -164,12 +172,13 @@ fn lent_parts_are_hashed_as_lent() {
 #[test]
 fn every_lent_byte_counts() {
     let random = &mut Random::new(207);
-    let parameters = Parameters { modulus: 100, n: 40, m: 12 };
-    for part in [2, 3] {
+    let parts = FORMS.into_iter().flat_map(|form| [2, 3].map(|part| (form, part)));
+    for (form, part) in parts {
+        let parameters = Parameters { form, modulus: 100, n: 40, m: 12 };
         let mut call = PartCall::honest(random, parameters, (part, BOTH));
         run(&mut call).unwrap();
         let [one, two] = [call.part_one.len(), call.part_two.len()];
-        for place in [0, 1, one / 2, one - 1] {
+        for place in (0..12).chain([one / 2, one - 1]) {
             let mut other = call.clone();
             other.part_one[place] ^= 0x10;
             run(&mut other).unwrap();

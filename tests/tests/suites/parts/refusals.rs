@@ -7,7 +7,7 @@ use paddockyear_tests::boards::calls::misuse::{
     check_each, check_pairs, misuse_at_random, Misusable,
 };
 use paddockyear_tests::boards::calls::parts::{PartCall, KINDS};
-use paddockyear_tests::boards::parameters;
+use paddockyear_tests::boards::{parameters, FORMS};
 use paddockyear_tests::random::Random;
 use paddockyear_tests::reference::terms::Parameters;
 
@@ -16,7 +16,12 @@ fn every_misuse() {
     let random = &mut Random::new(31);
     for kind in KINDS {
         for (n, m) in [(1, 1), (3, 2), (4, 12), (257, 1), (1024, 1)] {
-            let call = PartCall::honest(random, Parameters { modulus: 100, n, m }, kind);
+            let call = PartCall::honest(random, Parameters::unnumbered(100, n, m), kind);
+            assert_eq!(answer(call.clone()), 0);
+            check_each(&call, answer);
+        }
+        for (election, n, m) in [(0, 1, 1), (256, 3, 2), (u32::MAX, 4, 12)] {
+            let call = PartCall::honest(random, Parameters::numbered(election, 100, n, m), kind);
             assert_eq!(answer(call.clone()), 0);
             check_each(&call, answer);
         }
@@ -27,8 +32,11 @@ fn every_misuse() {
 fn every_pair_of_misuses() {
     let random = &mut Random::new(37);
     for kind in KINDS {
-        for (modulus, n, m) in [(2, 1, 1), (100, 3, 2)] {
-            check_pairs(&PartCall::honest(random, Parameters { modulus, n, m }, kind), answer);
+        for form in FORMS {
+            for (modulus, n, m) in [(2, 1, 1), (100, 3, 2)] {
+                let parameters = Parameters { form, modulus, n, m };
+                check_pairs(&PartCall::honest(random, parameters, kind), answer);
+            }
         }
     }
 }
@@ -45,9 +53,12 @@ fn refusals_of_each_kind() {
         &[3, 5, 6, 7, 10, 18, 19],
     ];
     for (kind, due) in KINDS.into_iter().zip(due) {
-        let call = PartCall::honest(random, Parameters { modulus: 100, n: 3, m: 2 }, kind);
-        let met: BTreeSet<u8> = call.misuses().iter().map(|misuse| misuse.number).collect();
-        assert!(met.iter().eq(due), "{kind:?}");
+        for form in FORMS {
+            let parameters = Parameters { form, modulus: 100, n: 3, m: 2 };
+            let call = PartCall::honest(random, parameters, kind);
+            let met: BTreeSet<u8> = call.misuses().iter().map(|misuse| misuse.number).collect();
+            assert!(met.iter().eq(due), "{kind:?}");
+        }
         let mut answers = BTreeSet::new();
         for _ in 0..300 {
             let parameters = parameters(random, 6, 3);
@@ -63,8 +74,9 @@ fn refusals_of_each_kind() {
 #[test]
 fn what_is_not_lent() {
     let random = &mut Random::new(33);
-    for kind in KINDS {
-        let mut call = PartCall::honest(random, Parameters { modulus: 100, n: 3, m: 2 }, kind);
+    for (kind, form) in KINDS.into_iter().flat_map(|kind| FORMS.map(|form| (kind, form))) {
+        let parameters = Parameters { form, modulus: 100, n: 3, m: 2 };
+        let mut call = PartCall::honest(random, parameters, kind);
         if !call.has_dice() {
             call.dice.clear();
         }
