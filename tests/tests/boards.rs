@@ -4,6 +4,7 @@
 use std::collections::{BTreeMap, BTreeSet};
 
 use paddockyear_tests::boards::samples::{files, promised, stored};
+use paddockyear_tests::hex;
 use paddockyear_tests::reference::judge::Judging;
 use paddockyear_tests::reference::page::{page, teller_page, LONGEST};
 use paddockyear_tests::reference::runoff::{Candidate, Outcome};
@@ -20,6 +21,32 @@ fn they_are_what_is_written() {
     for (name, bytes) in written {
         assert!(stored[&name] == bytes, "{name}");
     }
+}
+
+/// Boards stored before document 02's item 4 keep their bytes: the digest of all of them, one behind
+/// the other in the order of their names, was worked out then by another program.
+#[test]
+fn unnumbered_ones_keep_their_bytes() {
+    let mut stored = stored().unwrap();
+    stored.retain(|name, _| !name.starts_with("numbered-"));
+    assert_eq!(stored.len(), 15);
+    let all: Vec<u8> = stored.into_values().flatten().collect();
+    let digest = "aa8ec772ac564efe6fc1ca77643f55b95306fc74d3ec577d9a64eab13134581b";
+    assert_eq!(hex(&subject::sha3_256(&all)), digest);
+}
+
+/// Their first commands, of every kind: two whole ones and one that is cut behind M.
+#[test]
+fn first_commands_of_numbered_ones() {
+    let stored = stored().unwrap();
+    let first = |name: &str| {
+        let record = &stored[&format!("numbered-{name}.board")];
+        hex(&record[..record.len().min(12)])
+    };
+    assert_eq!(first("eight-ballots"), "0c0000000200000064000802");
+    assert_eq!(first("one-ballot"), "0cffffffff00000002000101");
+    assert_eq!(first("ranked"), "0c000000003b9aca00001701");
+    assert_eq!(first("refused-1"), "0c0000000200000064");
 }
 
 /// `refused-N` is refused by rule N, all others are accepted, and the program reads each.
@@ -39,16 +66,22 @@ fn their_names_are_true() {
 
 /// Worked out by hand: 18 votes count at first, then 17.
 #[test]
-fn the_ranked_board() {
-    let record = &stored().unwrap()["ranked.board"];
+fn the_ranked_boards() {
+    let stored = stored().unwrap();
+    check_ranked(&stored["ranked.board"], "");
+    check_ranked(&stored["numbered-ranked.board"], "ELECTION 0\n");
+}
+
+/// The election's line is due below the first.
+fn check_ranked(record: &[u8], election: &str) {
     let mut votes = [0; 23];
     subject::announced_votes(record, &mut votes).unwrap();
     let mut table = [Candidate { count: 77, left: 77 }; 4];
     let outcome = subject::runoff(&votes, 4, &mut table);
     assert_eq!(outcome, Ok(Outcome { winner: Some(2), blank: 2, spoiled: 3 }));
     assert_eq!(table.map(|entry| (entry.count, entry.left)), [(8, 0), (9, 0), (3, 2), (3, 1)]);
-    let text = "ACCEPTED\nROUND\t#1\t#2\t#3\t#4\tLEAVES\n\
+    let text = "ROUND\t#1\t#2\t#3\t#4\tLEAVES\n\
                 1\t6\t6\t3\t3\t#4\n2\t7\t7\t3\t-\t#3\n3\t8\t9\t-\t-\t-\n\
                 WINNER\t#2\nBLANK\t2\nSPOILED\t3\n";
-    assert_eq!(teller_page(4, record), text);
+    assert_eq!(teller_page(4, record), format!("ACCEPTED\n{election}{text}"));
 }

@@ -172,6 +172,17 @@ fn lengths() {
             assert_eq!(call.hold(election), Err(18));
         }
     }
+    for ((n, m), length) in [((1, 1), 1_129), ((8, 2), 14_351)] {
+        let inputs = inputs(random, Parameters::numbered(u32::MAX, 100, n, m));
+        let record = record(random, &inputs);
+        assert_eq!((record.len(), inputs.parameters.record_length()), (length, length));
+        accepted(&record, &inputs.votes);
+        for wrong in [0, length - 4, length - 1, length + 1] {
+            let mut call = ElectionCall::of(random, inputs.clone(), BOTH);
+            call.buffers[3] = vec![7; wrong];
+            assert_eq!(call.hold(election), Err(18));
+        }
+    }
     assert_eq!(of(2, 1024, 12).record_length(), 9_343_051);
     assert_eq!(of(2, 4096, 12).record_length(), 37_371_979);
 }

@@ -1,14 +1,15 @@
 //! Conventions that writer and judge share, pinned by values worked out outside this crate, from
-//! document 01's words, with another program's SHA-3.
+//! document 01's words and document 02's item 4, with another program's SHA-3.
 
 use paddockyear_tests::boards::{board_with_dice, BOTH};
 use paddockyear_tests::hex;
 use paddockyear_tests::random::Random;
 use paddockyear_tests::reference::drawing::{drawn_mask, drawn_sides, seed};
 use paddockyear_tests::reference::judge::{judge, Judging};
+use paddockyear_tests::reference::receipt::{check_receipt, Posted};
 use paddockyear_tests::reference::sha3::sha3_256;
 use paddockyear_tests::reference::tablet::receipt;
-use paddockyear_tests::reference::terms::{sorted, Opening, Parameters};
+use paddockyear_tests::reference::terms::{sorted, Form, Opening, Parameters};
 use paddockyear_tests::reference::writer::Inputs;
 
 const DICE: &[u8; 30] = b"123456123456123456123456123456";
@@ -56,6 +57,9 @@ fn inputs() -> Inputs {
     }
 }
 
+/// The receipt of its first ballot, in every form.
+const PRINTED: &str = "000000072040116a0076eb613787e5674cc721f1caca63328dc001c4dfd7feec";
+
 /// Every byte of a drawn record.
 #[test]
 fn record() {
@@ -66,10 +70,65 @@ fn record() {
         "7eb298fb436ff6ee193a170807cc9611591648635c12b24f780081d9ebfef05e"
     );
     assert_eq!(judge(&record, Judging::Drawn), Ok(vec![5, 5, 900]));
-    assert_eq!(
-        hex(&receipt(7, &record[8..205])),
-        "000000072040116a0076eb613787e5674cc721f1caca63328dc001c4dfd7feec"
-    );
+    assert_eq!(hex(&receipt(7, &record[8..205])), PRINTED);
+}
+
+/// The same with 0C first: the election's number, the first command, the mask and sides that are
+/// drawn, and the digest of every byte.
+const NUMBERED: [(u32, &str, u32, [u8; 3], &str); 5] = [
+    (
+        0,
+        "0c00000000000003e8000301",
+        2,
+        [1, 0, 0],
+        "21ccdc1d0cb7844f035909ed3f375ee900b39983585725240eacb008158905ae",
+    ),
+    (
+        1,
+        "0c00000001000003e8000301",
+        1,
+        [0, 1, 1],
+        "829c09fe77a7431d639069654c36062a2c7c869fabb755da4509d85a214e8acd",
+    ),
+    (
+        0x0102_0304,
+        "0c01020304000003e8000301",
+        1,
+        [1, 0, 1],
+        "4f0bdd26ad0ce6a15843e5fd3239d627d067e094b1ed7440cf2abab009d3a236",
+    ),
+    (
+        0x0C0C_0C0C,
+        "0c0c0c0c0c000003e8000301",
+        2,
+        [0, 0, 1],
+        "9c9dd505ce6847c54fb68117760903d01916fdc821a33142b80ac688bd093d28",
+    ),
+    (
+        u32::MAX,
+        "0cffffffff000003e8000301",
+        2,
+        [0, 1, 1],
+        "9ead33f7f332ebf83ab0eaaabe268d2b91c14877a5dfd20d32a15ed27c34f27c",
+    ),
+];
+
+#[test]
+fn numbered_records() {
+    let dice = [DICE.to_vec(), b"654321".repeat(5)];
+    for (election, first, mask, sides, digest) in NUMBERED {
+        let mut inputs = inputs();
+        inputs.parameters.form = Form::Numbered(election);
+        let board = board_with_dice(&mut Random::new(62), &inputs, &dice, BOTH);
+        let record = board.record();
+        assert_eq!((&hex(&record[..12])[..], board.mask), (first, mask));
+        assert_eq!([0, 1, 2].map(|j| board.parts[2][31 + 224 * j + 3]), sides);
+        assert_eq!((record.len(), &hex(&sha3_256(&record))[..]), (3_229, digest));
+        assert_eq!(judge(&record, Judging::Drawn), Ok(vec![5, 5, 900]));
+        let printed = receipt(7, &record[12..209]);
+        assert_eq!(check_receipt(&record, &printed), Ok(Posted::AsPrinted));
+        assert_eq!(hex(&printed), PRINTED);
+    }
 }
 
 /// Two lists of n ballots, n being a power of two, with places, keys and numbers of every width.
@@ -88,16 +147,27 @@ fn many_inputs(n: u32) -> Inputs {
     }
 }
 
-/// Every byte of the largest record with two lists, and of the largest that document 01 knew before
-/// document 02's item 3.
+/// Every byte of the largest record with two lists, of the largest that document 01 knew before
+/// document 02's item 3, and of the largest with 0C.
 #[test]
 fn records_of_many_ballots() {
     let dice = [DICE.to_vec(), b"654321".repeat(5)];
-    for (n, digest) in [
-        (1024, "74ba357a1abdeb772ac2bc0b47d3634d97669e6c621388ff8f85dba3486c68d7"),
-        (4096, "65a4e3241dfe6dc506dca2a2b8040bfe63650c41cf08ec1cfa8111b386c6322c"),
+    let numbered = Form::Numbered(0xE1EC_7104);
+    for (form, n, digest) in [
+        (
+            Form::Unnumbered,
+            1024,
+            "74ba357a1abdeb772ac2bc0b47d3634d97669e6c621388ff8f85dba3486c68d7",
+        ),
+        (
+            Form::Unnumbered,
+            4096,
+            "65a4e3241dfe6dc506dca2a2b8040bfe63650c41cf08ec1cfa8111b386c6322c",
+        ),
+        (numbered, 4096, "323b5078810a5305d49fb2b25e93e6ec7fc810b6352289088bcb8b14d75e721a"),
     ] {
-        let inputs = many_inputs(n);
+        let mut inputs = many_inputs(n);
+        inputs.parameters.form = form;
         let record = board_with_dice(&mut Random::new(61), &inputs, &dice, BOTH).record();
         assert_eq!(hex(&sha3_256(&record)), digest, "{n} ballots");
         assert_eq!(judge(&record, Judging::Drawn), Ok(sorted(&inputs.votes)));
