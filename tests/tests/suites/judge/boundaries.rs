@@ -74,7 +74,7 @@ fn rule_3_limits() {
 
 /// Every operand of 0C at its limits beside numbers of elections, of which every one stands.
 #[test]
-fn rule_3_limits_numbered() {
+fn rule_3_numbered_limits() {
     let random = &mut Random::new(121);
     for election in ELECTIONS {
         for (modulus, n, m) in [(2, 1, 1), (u32::MAX, 2, 12)] {

@@ -1,5 +1,7 @@
 //! Honest boards of many shapes are accepted, the drawn ones by both judgings.
 
+use std::ops::RangeInclusive;
+
 use super::verdict;
 use crate::subject::judge;
 use paddockyear_tests::boards::*;
@@ -30,18 +32,18 @@ fn of_any_shape() {
 /// Every n from 1 to 40 with every m, the moduli in turn.
 #[test]
 fn of_every_shape() {
-    of_every_shape_and_form(14, |_| Form::Unnumbered);
+    of_every_shape_and_form(14, 1..=40, |_| Form::Unnumbered);
 }
 
-/// The same with numbers of elections in turn.
+/// The same of fewer ballots with numbers of elections in turn.
 #[test]
 fn of_every_shape_numbered() {
-    of_every_shape_and_form(16, |turn| Form::Numbered(ELECTIONS[turn % ELECTIONS.len()]));
+    of_every_shape_and_form(16, 1..=16, |turn| Form::Numbered(ELECTIONS[turn % ELECTIONS.len()]));
 }
 
-fn of_every_shape_and_form(seed: u64, form: impl Fn(usize) -> Form) {
+fn of_every_shape_and_form(seed: u64, ballots: RangeInclusive<u32>, form: impl Fn(usize) -> Form) {
     let random = &mut Random::new(seed);
-    for n in 1..=40 {
+    for n in ballots {
         for m in 1..=12 {
             let turn = (n + m) as usize;
             let (form, modulus) = (form(turn), MODULI[turn % MODULI.len()]);

@@ -38,7 +38,7 @@ fn rule_3_limits() {
 
 /// Every number of an election stands beside them.
 #[test]
-fn rule_3_limits_numbered() {
+fn rule_3_numbered_limits() {
     let random = &mut Random::new(213);
     for (modulus, n, m, number) in [
         (2, 1, 1, 0),

@@ -95,7 +95,6 @@ fn refusals() {
         check_each(&call, answer);
         check_pairs(&call, answer);
     }
-    check_each(&DrawCall::honest(random, Parameters::numbered(u32::MAX, 100, 4096, 1)), answer);
     let mut answers = BTreeSet::new();
     for _ in 0..500 {
         let parameters = parameters(random, 6, 12);
@@ -122,9 +121,21 @@ fn limits() {
         (2, 1, 0, 3),
         (2, 1, 13, 3),
     ] {
-        for form in FORMS {
-            let call = DrawCall::honest(random, Parameters { form, modulus, n, m });
-            assert_eq!(answer(call), number, "{form:?} {modulus} {n} {m}");
+        let call = DrawCall::honest(random, Parameters::unnumbered(modulus, n, m));
+        assert_eq!(answer(call), number, "{modulus} {n} {m}");
+    }
+    for (modulus, n, m, number) in [
+        (2, 1, 1, 0),
+        (u32::MAX, 1, 12, 0),
+        (1, 1, 1, 3),
+        (2, 0, 1, 3),
+        (2, 4097, 1, 3),
+        (2, 1, 0, 3),
+        (2, 1, 13, 3),
+    ] {
+        for election in ELECTIONS {
+            let parameters = Parameters::numbered(election, modulus, n, m);
+            assert_eq!(answer(DrawCall::honest(random, parameters)), number, "{parameters:?}");
         }
     }
 }
@@ -150,12 +161,12 @@ fn longest_of_many_ballots() {
     assert_eq!(answer(call), 0);
 }
 
-/// The first byte that does not go into the hash of a part one of the other form.
 #[test]
 fn longest_of_many_ballots_numbered() {
     let parameters = Parameters::numbered(0, 2, 4096, 12);
     let call = DrawCall::honest(&mut Random::new(279), parameters);
     assert_eq!(call.part_one.len(), 20_074_508);
+    check_each(&call, answer);
     assert_eq!(answer(call), 0);
 }
 
