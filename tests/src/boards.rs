@@ -15,8 +15,8 @@ use crate::reference::writer::{self, mask_of, Inputs};
 pub const MODULI: [u32; 9] =
     [2, 3, 9, 100, 65_537, 0x7FFF_FFFF, 0x8000_0000, 0xFFFF_FFFE, u32::MAX];
 
-/// Numbers of elections: at the limits of a byte and of the type, those whose bytes may be taken for
-/// commands, and one that no other order of its bytes is.
+/// Numbers of elections: at the limits of a byte and of the type, with bytes that may be taken for
+/// commands, and one whose bytes all differ.
 pub const ELECTIONS: [u32; 12] = [
     0,
     1,

@@ -23,8 +23,8 @@ fn they_are_what_is_written() {
     }
 }
 
-/// Boards stored before document 02's item 4 keep their bytes: the digest of all of them, one behind
-/// the other in the order of their names, was worked out then by another program.
+/// Boards stored before document 02's item 4 keep their bytes: the digest of all, one behind the
+/// other in the order of their names, was worked out then by another program.
 #[test]
 fn unnumbered_ones_keep_their_bytes() {
     let mut stored = stored().unwrap();

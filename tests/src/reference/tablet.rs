@@ -65,7 +65,7 @@ pub fn receipt(id: u32, command: &[u8]) -> [u8; 32] {
     receipt
 }
 
-/// Writes a ballot's command and its receipt, or answers 3, 18 or 10. They do not depend on the form.
+/// Writes a ballot's command and its receipt, or answers 3, 18 or 10; the same in either form.
 pub fn tablet(
     _form: Form,
     modulus: u32,

@@ -165,7 +165,7 @@ fn receipts_among_many_ballots() {
     }
 }
 
-/// Receipts say nothing of the form: those of one record are the other's, and the number may be any.
+/// Receipts say nothing of the form: those of one record are the other's, whatever its number.
 #[test]
 fn receipts_of_both_forms() {
     let board = honest(&mut Random::new(50), SHAPE, NEITHER);

@@ -147,7 +147,7 @@ fn numbered_read_as_unnumbered() {
     refused(&record[..204], 1, 8);
 }
 
-/// Plain judging finds in a record with 0C what it finds in the same with 01, 4 bytes further behind.
+/// Plain judging finds in a record with 0C what it finds in the same with 01, 4 bytes further on.
 #[test]
 fn plainly_as_unnumbered() {
     let random = &mut Random::new(405);
