@@ -8,7 +8,7 @@ use std::collections::BTreeSet;
 
 use crate::random::Random;
 use crate::reference::election::{election, DiceTable};
-use crate::reference::terms::{Form, Parameters, MAX_BALLOTS, MAX_M};
+use crate::reference::terms::{Edition, Form, Parameters, MAX_BALLOTS, MAX_M, NOW};
 use crate::reference::writer::{self, mask_of, Inputs};
 
 /// Moduli at the limits, around powers of two, and in between.
@@ -72,13 +72,15 @@ pub fn form(random: &mut Random) -> Form {
 
 /// Parameters of either form with at most `n` ballots and 2 * `m` lists.
 pub fn parameters(random: &mut Random, n: u32, m: u32) -> Parameters {
-    Parameters { form: form(random), ..unnumbered_parameters(random, n, m) }
+    parameters_by(NOW, random, n, m)
 }
 
-/// The same with command 01.
-pub fn unnumbered_parameters(random: &mut Random, n: u32, m: u32) -> Parameters {
+/// The same in a form that the edition has.
+pub fn parameters_by(edition: Edition, random: &mut Random, n: u32, m: u32) -> Parameters {
     assert!(n <= MAX_BALLOTS && m <= MAX_M);
-    Parameters::unnumbered(random.pick(&MODULI), 1 + random.number(n), 1 + random.number(m))
+    let form = if edition.numbered { form(random) } else { Form::Unnumbered };
+    let modulus = random.pick(&MODULI);
+    Parameters { form, modulus, n: 1 + random.number(n), m: 1 + random.number(m) }
 }
 
 /// Inputs that no part refuses; votes repeat.

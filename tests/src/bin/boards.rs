@@ -1,58 +1,68 @@
-//! Writes boards with the reference's verdicts to standard output: honest and damaged ones, or with
-//! the argument `large` honest ones of 1,024, 2,048 and 4,096 ballots and 24 lists. Each has its
-//! length in 8 bytes, then for plain and for drawn judging the number in 1 byte and the place in 8,
-//! then the record.
+//! Writes boards with the reference's verdicts to standard output: honest and damaged ones of either
+//! form, with the argument `unnumbered` those of a time without 0C and the verdicts of then, or with
+//! `large` honest ones of 1,024, 2,048 and 4,096 ballots and 24 lists. Each has its length in 8
+//! bytes, then for plain and for drawn judging the number in 1 byte and the place in 8, then the
+//! record.
 
 use std::env;
 use std::io::{self, BufWriter, Write};
 
-use paddockyear_tests::boards::damage::{damaged, flipped};
-use paddockyear_tests::boards::{honest, parameters, ALL_DRAWS, BOTH};
+use paddockyear_tests::boards::damage::{damaged_by, flipped};
+use paddockyear_tests::boards::{honest, parameters_by, ALL_DRAWS, BOTH};
 use paddockyear_tests::random::Random;
-use paddockyear_tests::reference::judge::{judge, JUDGINGS};
-use paddockyear_tests::reference::terms::Parameters;
+use paddockyear_tests::reference::judge::{judge_by, JUDGINGS};
+use paddockyear_tests::reference::terms::{Edition, Parameters, NOW};
 
-fn put(out: &mut impl Write, record: &[u8]) -> io::Result<()> {
+fn put(out: &mut impl Write, edition: Edition, record: &[u8]) -> io::Result<()> {
     out.write_all(&(record.len() as u64).to_be_bytes())?;
     for judging in JUDGINGS {
-        let fault = judge(record, judging).map_or_else(|f| (f.number, f.place as u64), |_| (0, 0));
+        let verdict = judge_by(edition, record, judging);
+        let fault = verdict.map_or_else(|f| (f.number, f.place as u64), |_| (0, 0));
         out.write_all(&[fault.0])?;
         out.write_all(&fault.1.to_be_bytes())?;
     }
     out.write_all(record)
 }
 
-fn put_honest(out: &mut impl Write, random: &mut Random) -> io::Result<()> {
+fn put_honest(out: &mut impl Write, edition: Edition, random: &mut Random) -> io::Result<()> {
     for draws in ALL_DRAWS {
         for _ in 0..40 {
-            let parameters = parameters(random, 20, 12);
-            put(out, &honest(random, parameters, draws).record())?;
+            let parameters = parameters_by(edition, random, 20, 12);
+            put(out, edition, &honest(random, parameters, draws).record())?;
         }
     }
     for (n, m) in [(257, 3), (1000, 2), (1024, 1), (1024, 12), (1025, 1), (4096, 1)] {
-        put(out, &honest(random, Parameters::unnumbered(u32::MAX, n, m), BOTH).record())?;
+        let parameters = Parameters::unnumbered(u32::MAX, n, m);
+        put(out, edition, &honest(random, parameters, BOTH).record())?;
+    }
+    if edition.numbered {
+        for n in [257, 4096] {
+            let parameters = Parameters::numbered(n, u32::MAX, n, 1);
+            put(out, edition, &honest(random, parameters, BOTH).record())?;
+        }
     }
     Ok(())
 }
 
-fn put_damaged(out: &mut impl Write, random: &mut Random) -> io::Result<()> {
+fn put_damaged(out: &mut impl Write, edition: Edition, random: &mut Random) -> io::Result<()> {
     for judging in JUDGINGS {
         for _ in 0..2_000 {
-            put(out, &damaged(random, 9, 3, judging).0)?;
+            put(out, edition, &damaged_by(edition, random, (9, 3), judging).0)?;
         }
     }
     for _ in 0..1_500 {
-        let parameters = parameters(random, 3, 2);
+        let parameters = parameters_by(edition, random, 3, 2);
         let record = honest(random, parameters, BOTH).record();
-        put(out, &flipped(random, &record))?;
-        put(out, &record[..random.index(record.len())])?;
+        put(out, edition, &flipped(random, &record))?;
+        put(out, edition, &record[..random.index(record.len())])?;
     }
     Ok(())
 }
 
 fn put_large(out: &mut impl Write, random: &mut Random) -> io::Result<()> {
     for n in [1024, 2048, 4096] {
-        put(out, &honest(random, Parameters::unnumbered(u32::MAX, n, 12), BOTH).record())?;
+        let parameters = Parameters::unnumbered(u32::MAX, n, 12);
+        put(out, NOW, &honest(random, parameters, BOTH).record())?;
     }
     Ok(())
 }
@@ -60,13 +70,16 @@ fn put_large(out: &mut impl Write, random: &mut Random) -> io::Result<()> {
 fn main() -> io::Result<()> {
     let random = &mut Random::new(70);
     let out = &mut BufWriter::new(io::stdout().lock());
-    match env::args().nth(1).as_deref() {
-        Some("large") => put_large(out, random)?,
-        Some(other) => panic!("no boards are called {other}"),
-        None => {
-            put_honest(out, random)?;
-            put_damaged(out, random)?;
+    let edition = match env::args().nth(1).as_deref() {
+        Some("large") => {
+            put_large(out, random)?;
+            return out.flush();
         }
-    }
+        Some("unnumbered") => Edition { numbered: false, ..NOW },
+        Some(other) => panic!("no boards are called {other}"),
+        None => NOW,
+    };
+    put_honest(out, edition, random)?;
+    put_damaged(out, edition, random)?;
     out.flush()
 }

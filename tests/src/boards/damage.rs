@@ -3,7 +3,7 @@
 
 use std::collections::BTreeSet;
 
-use crate::boards::{inputs, parameters, unnumbered_parameters, Layout};
+use crate::boards::{inputs, parameters_by, Layout};
 use crate::random::Random;
 use crate::reference::drawing::{drawn_mask, drawn_sides, seed};
 use crate::reference::judge::{Fault, Judging};
@@ -270,10 +270,7 @@ pub fn damaged_by(
     (n, m): (u32, u32),
     judging: Judging,
 ) -> (Vec<u8>, Fault) {
-    let parameters = match edition.numbered {
-        true => parameters(random, n, m),
-        false => unnumbered_parameters(random, n, m),
-    };
+    let parameters = parameters_by(edition, random, n, m);
     let secrets = Secrets::new(&inputs(random, parameters));
     let target = Target::any(random, &parameters);
     let mut forgery = Forgery::new(secrets, random.mask(parameters.m));
