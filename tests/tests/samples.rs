@@ -3,13 +3,13 @@
 //! `linked` through the reference alone.
 
 use paddockyear_tests::boards::calls::election::ElectionCall;
-use paddockyear_tests::boards::{inputs, still_inputs, BOTH};
+use paddockyear_tests::boards::{inputs, still_inputs, Layout, BOTH, FORMS};
 use paddockyear_tests::hex;
 use paddockyear_tests::random::Random;
 use paddockyear_tests::reference::judge::{Fault, JUDGINGS};
 use paddockyear_tests::reference::receipt::Posted;
 use paddockyear_tests::reference::tablet::{receipt, SplitVote};
-use paddockyear_tests::reference::terms::{sorted, Form, Parameters};
+use paddockyear_tests::reference::terms::{sorted, Parameters};
 use paddockyear_tests::reference::writer::{Inputs, MaskSource, SidesSource};
 
 #[cfg(feature = "linked")]
@@ -20,6 +20,11 @@ use subject::*;
 
 fn of(modulus: u32, n: u32, m: u32) -> Parameters {
     Parameters::unnumbered(modulus, n, m)
+}
+
+/// The same in both forms.
+fn both(modulus: u32, n: u32, m: u32) -> [Parameters; 2] {
+    FORMS.map(|form| Parameters { form, modulus, n, m })
 }
 
 /// The record of an election with both draws.
@@ -101,6 +106,18 @@ fn most_ballots() {
     answered_by_writers(random, of(100, 4097, 1), Err(3));
 }
 
+#[test]
+fn most_ballots_numbered() {
+    let random = &mut Random::new(8);
+    let inputs = inputs(random, Parameters::numbered(4097, 100, 4096, 1));
+    let mut record = record(random, &inputs);
+    assert_eq!(record.len(), 4_300_879);
+    accepted(&record, &inputs.votes);
+    record[9..11].copy_from_slice(&4097u16.to_be_bytes());
+    refused(&record, 3, 0);
+    answered_by_writers(random, Parameters::numbered(4096, 100, 4097, 1), Err(3));
+}
+
 /// It was 3 before document 02's item 3.
 #[test]
 fn a_ballot_more_than_1_024() {
@@ -112,49 +129,53 @@ fn a_ballot_more_than_1_024() {
 #[test]
 fn smallest_modulus() {
     let random = &mut Random::new(2);
-    let inputs = inputs(random, of(2, 2, 1));
-    let mut record = record(random, &inputs);
-    accepted(&record, &inputs.votes);
-    record[1..5].copy_from_slice(&1u32.to_be_bytes());
-    refused(&record, 3, 0);
-    assert_eq!(check_receipt(&record, &[0; 32]), Err(3));
-    assert_eq!(look_up(&record, &[0; 32]), Err(3));
-    answered_by_writers(random, of(1, 2, 1), Err(3));
-    let split = SplitVote { vote: 0, shares: [0; 2], firsts: [0; 3] };
-    let (mut command, mut printed) = ([7; 197], [7; 32]);
-    assert_eq!(
-        tablet(Form::Unnumbered, 1, 5, &split, &[0; 192], &mut command, &mut printed),
-        Err(3)
-    );
-    assert_eq!((command, printed), ([7; 197], [7; 32]));
-    assert_eq!(
-        tablet(Form::Unnumbered, 2, 5, &split, &[0; 192], &mut command, &mut printed),
-        Ok(())
-    );
+    for parameters in both(2, 2, 1) {
+        let inputs = inputs(random, parameters);
+        let mut record = record(random, &inputs);
+        accepted(&record, &inputs.votes);
+        let place = Layout::new(&parameters).modulus();
+        record[place..place + 4].copy_from_slice(&1u32.to_be_bytes());
+        refused(&record, 3, 0);
+        assert_eq!(check_receipt(&record, &[0; 32]), Err(3));
+        assert_eq!(look_up(&record, &[0; 32]), Err(3));
+        answered_by_writers(random, Parameters { modulus: 1, ..parameters }, Err(3));
+        let split = SplitVote { vote: 0, shares: [0; 2], firsts: [0; 3] };
+        for (modulus, due) in [(1, Err(3)), (2, Ok(()))] {
+            let (form, mut command, mut printed) = (parameters.form, [7; 197], [7; 32]);
+            let answer = tablet(form, modulus, 5, &split, &[0; 192], &mut command, &mut printed);
+            assert_eq!(answer, due);
+            assert_eq!((command, printed) == ([7; 197], [7; 32]), due.is_err());
+        }
+    }
 }
 
 #[test]
 fn byte_behind() {
     let random = &mut Random::new(1);
-    let inputs = inputs(random, of(100, 2, 1));
-    let record = record(random, &inputs);
-    accepted(&record, &inputs.votes);
-    assert_eq!(record.last(), Some(&0x0B));
-    for byte in [0x00, 0x01, 0x0B, 0xFF] {
-        refused(&[&record[..], &[byte]].concat(), 17, record.len());
+    for parameters in both(100, 2, 1) {
+        let inputs = inputs(random, parameters);
+        let record = record(random, &inputs);
+        accepted(&record, &inputs.votes);
+        assert_eq!(record.last(), Some(&0x0B));
+        for byte in [0x00, 0x01, 0x0B, 0x0C, 0xFF] {
+            refused(&[&record[..], &[byte]].concat(), 17, record.len());
+        }
     }
 }
 
 #[test]
 fn equal_commitments() {
     let random = &mut Random::new(4);
-    let mut inputs = inputs(random, of(100, 2, 1));
-    inputs.votes[1] = inputs.votes[0];
-    inputs.numbers.copy_within(0..5, 5);
-    inputs.keys.copy_within(0..192, 192);
-    let record = record(random, &inputs);
-    assert_eq!(record[8 + 5..8 + 197], record[205 + 5..205 + 197]);
-    accepted(&record, &inputs.votes);
+    for parameters in both(100, 2, 1) {
+        let mut inputs = inputs(random, parameters);
+        inputs.votes[1] = inputs.votes[0];
+        inputs.numbers.copy_within(0..5, 5);
+        inputs.keys.copy_within(0..192, 192);
+        let record = record(random, &inputs);
+        let [first, second] = [0, 1].map(|j| Layout::new(&parameters).ballot(j));
+        assert_eq!(record[first + 5..second], record[second + 5..second + 197]);
+        accepted(&record, &inputs.votes);
+    }
 }
 
 #[test]
@@ -191,14 +212,16 @@ fn lengths() {
 #[test]
 fn votes_2_5_5() {
     let random = &mut Random::new(5);
-    let mut inputs = inputs(random, of(9, 3, 2));
-    inputs.votes = vec![5, 2, 5];
-    let record = record(random, &inputs);
-    accepted(&record, &[2, 5, 5]);
-    let (mut votes, mut values, mut counts) = ([7; 3], [7; 3], [7; 3]);
-    assert_eq!(announced_votes(&record, &mut votes), Ok(()));
-    assert_eq!(tally(&votes, &mut values, &mut counts), Ok(2));
-    assert_eq!((votes, values, counts), ([2, 5, 5], [2, 5, 7], [1, 2, 7]));
+    for parameters in both(9, 3, 2) {
+        let mut inputs = inputs(random, parameters);
+        inputs.votes = vec![5, 2, 5];
+        let record = record(random, &inputs);
+        accepted(&record, &[2, 5, 5]);
+        let (mut votes, mut values, mut counts) = ([7; 3], [7; 3], [7; 3]);
+        assert_eq!(announced_votes(&record, &mut votes), Ok(()));
+        assert_eq!(tally(&votes, &mut values, &mut counts), Ok(2));
+        assert_eq!((votes, values, counts), ([2, 5, 5], [2, 5, 7], [1, 2, 7]));
+    }
 }
 
 const TWO_BLOCKS: &str = "abcdefghbcdefghicdefghijdefghijkefghijklfghijklmghijklmnhijklmno\

@@ -132,10 +132,10 @@ fn elections() {
 #[test]
 fn tablets() {
     let random = &mut Random::new(504);
-    for modulus_off in [0, 1] {
+    for broken in [false, true] {
         let TabletCall { modulus, id, split, keys, command, receipt, .. } =
             TabletCall::honest(random);
-        let modulus = if modulus_off == 0 { modulus } else { 1 };
+        let modulus = if broken { 1 } else { modulus };
         for told in every_told() {
             let (mut found, mut due) =
                 ((command.clone(), receipt.clone()), (command.clone(), receipt.clone()));
@@ -151,6 +151,7 @@ fn tablets() {
                 &mut due.1,
             );
             assert_eq!(answer, number_of(&due_answer), "{told:?}");
+            assert_eq!(answer, if broken { 3 } else { 0 });
             assert_eq!(found, due, "{told:?}");
         }
     }

@@ -68,14 +68,16 @@ fn every_first_byte() {
 /// Operands of 0C are not looked at before all of them are there, nor those of 01.
 #[test]
 fn limits_of_a_cut_command() {
-    for (bytes, width) in [([0x01, 0, 0, 0, 0, 0, 0, 0, 0, 0, 0, 0], 8), ([0x0C; 12], 12)] {
+    let zeros = |code| [&[code][..], &[0; 11]].concat();
+    for (bytes, width) in [(zeros(0x01), 8), (zeros(0x0C), 12), (vec![0x0C; 12], 12)] {
         for length in 1..width {
             refused(&bytes[..length], 1, 0);
         }
     }
-    refused(&[0x01, 0, 0, 0, 0, 0, 0, 0], 3, 0);
+    refused(&zeros(0x01), 3, 0);
+    refused(&zeros(0x0C), 3, 0);
+    // n is 3,084 and m is 12.
     refused(&[0x0C; 12], 1, 12);
-    refused(&[0x0C, 255, 255, 255, 255, 0, 0, 0, 0, 0, 0, 0], 3, 0);
 }
 
 /// 01 read as 0C: M is the number, then come n, m and 02 as M, and the id as n, m and what follows.
