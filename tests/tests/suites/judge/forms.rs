@@ -163,14 +163,14 @@ fn plainly_as_unnumbered() {
         let found = judge(&record, Judging::Plain).unwrap_err();
         let longer = if found.place == 0 { 0 } else { 4 };
         let due = Fault { place: found.place + longer, ..found };
-        let election = form_number(random);
+        let election = any_number(random);
         assert_eq!(judge(&numbered(&record, election), Judging::Plain), Err(due));
         met.insert(due.number);
     }
     assert!(met.into_iter().eq((1..=17).filter(|rule| ![8, 12].contains(rule))));
 }
 
-fn form_number(random: &mut Random) -> u32 {
+fn any_number(random: &mut Random) -> u32 {
     match random.below(2) {
         0 => random.pick(&ELECTIONS),
         _ => random.word() as u32,
