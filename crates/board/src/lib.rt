@@ -1,4 +1,4 @@
-// Part one of a record, commands 01 to 03: the parameters, the ballots, and the entries of all lists.
+// Part one of a record, commands 01 or 0C, 02 and 03: the parameters, the ballots, and the entries of all lists.
 ghost use mathlib.Core.Path.{_≡_};
 ghost use mathlib.Core.List.{[]};
 ghost use Prim.Native.Nat.{_+_, _*_, _≤_, _<_};

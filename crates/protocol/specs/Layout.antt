@@ -94,7 +94,7 @@ module _ (p : Parameters) where
   unfoldable pub atEnd : ℕ
   atEnd = atVote (p .ballots) + 220 * (p .compared * p .ballots)
 
-  -- the whole record, and the servers' three parts: 01 to 03; 04 and 05; 06 to 0B
+  -- the whole record, and the servers' three parts: 01 or 0C to 03; 04 and 05; 06 to 0B
   abbrev pub recordLength : ℕ
   recordLength = atEnd + 1
 

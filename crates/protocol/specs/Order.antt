@@ -32,7 +32,7 @@ module _ (mask : ℕ) where
   unfoldable pub commands : Parameters → List Due
   commands p =
       let n = p .ballots in
-      -- "01 parameters"
+      -- "01 parameters", or 0C
       (First ∷ [])
       -- "02 ballot, n times"
       ++ joined (λ j. Ballot j ∷ []) n

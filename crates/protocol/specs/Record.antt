@@ -88,7 +88,7 @@ module _ (p : Parameters) (r : List ℕ) where
 
 -- ---- what is said
 
--- before the first dice: commands 01 to 03, by ballot, list, position and slot
+-- before the first dice: commands 01 or 0C, 02 and 03, by ballot, list, position and slot
 pub record Board : Type 0 where
   pub parameters : Parameters
   pub id : ℕ → ℕ

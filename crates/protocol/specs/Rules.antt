@@ -53,7 +53,7 @@ agrees M (suc side) ballot list t = equal ballot (minus M list t)
 
 -- ---- the rules of a whole command; `drawn` is the switch between plain and drawn judging
 
--- 01: 3, where n may be up to `most`
+-- 01 and 0C: 3, where n may be up to `most`
 abbrev pub firstRulesUpTo : ℕ → List ℕ → ℕ
 firstRulesUpTo most r = rule 3 (inLimitsUpTo most (parametersOf r)) kept
 

@@ -10,7 +10,7 @@ ghost use Rattle.protocol.specs.Rules.{firstRules, ballotRules, entryRules, fir
 ghost use Rattle.rules.specs.Known.{FirstDiceReady, LinkReady};
 use protocol::Parameters;
 
-// 01: M, n and m in their limits, 3.
+// 01 and 0C: M, n and m in their limits, 3.
 pub fn first_rules(bytes: &[u8]) -> u32
     requires { ⌜ firstWidth (parametersOf (now bytes)) ≤ length (now bytes) ⌝ }
     ensures { λ k. ⌜ k ≡ firstRules (before bytes) ⌝ }
