@@ -82,7 +82,7 @@ fn every_pair_of_shape(seed: u64, shape: Parameters) {
 fn random_boards_with_random_faults() {
     let random = &mut Random::new(22);
     for judging in JUDGINGS {
-        for _ in 0..2_500 {
+        for _ in 0..2_000 {
             let (record, due) = damaged(random, 9, 3, judging);
             assert_eq!(judge(&record, judging), Err(due));
         }

@@ -166,13 +166,22 @@ fn rule_4_later_commands() {
 /// Of the most ballots' last place, without its high byte and with its bytes exchanged.
 #[test]
 fn rule_4_last_place() {
-    for posted in [largest(), largest_numbered()] {
-        for ((command, offset), due) in later_commands(posted, MOST - 1) {
-            assert_eq!(posted.operand(command + offset), due);
-            for bytes in [[0x00, 0xFF], [0xFF, 0x0F]] {
-                posted.refused(Judging::Drawn, (command + offset, &bytes), 4, command);
-            }
+    let posted = largest();
+    for ((command, offset), due) in later_commands(posted, MOST - 1) {
+        assert_eq!(posted.operand(command + offset), due);
+        for bytes in [[0x00, 0xFF], [0xFF, 0x0F]] {
+            posted.refused(Judging::Drawn, (command + offset, &bytes), 4, command);
         }
+    }
+}
+
+/// The same in a numbered election, without the high byte.
+#[test]
+fn rule_4_last_place_numbered() {
+    let posted = largest_numbered();
+    for ((command, offset), due) in later_commands(posted, MOST - 1) {
+        assert_eq!(posted.operand(command + offset), due);
+        posted.refused(Judging::Plain, (command + offset, &[0x00, 0xFF]), 4, command);
     }
 }
 

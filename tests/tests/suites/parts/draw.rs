@@ -166,8 +166,9 @@ fn longest_of_many_ballots_numbered() {
     let parameters = Parameters::numbered(0, 2, 4096, 12);
     let call = DrawCall::honest(&mut Random::new(279), parameters);
     assert_eq!(call.part_one.len(), 20_074_508);
-    check_each(&call, answer);
-    assert_eq!(answer(call), 0);
+    assert_eq!(answer(call.clone()), 0);
+    let told = DrawCall { parameters: Parameters::unnumbered(2, 4096, 12), ..call };
+    assert_eq!(answer(told), 18);
 }
 
 #[test]
