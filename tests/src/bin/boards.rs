@@ -1,8 +1,8 @@
-//! Writes boards with the reference's verdicts to standard output: honest and damaged ones of either
-//! form, with the argument `unnumbered` those of a time without 0C and the verdicts of then, or with
-//! `large` honest ones of 1,024, 2,048 and 4,096 ballots and 24 lists. Each has its length in 8
-//! bytes, then for plain and for drawn judging the number in 1 byte and the place in 8, then the
-//! record.
+//! Writes boards with the reference's verdicts to standard output: honest and damaged ones of
+//! either form, with the argument `unnumbered` those of a time without 0C and the verdicts of then,
+//! or with `large` honest ones of 1,024, 2,048 and 4,096 ballots and 24 lists. Each has its length
+//! in 8 bytes, then for plain and for drawn judging the number in 1 byte and the place in 8, then
+//! the record.
 
 use std::env;
 use std::io::{self, BufWriter, Write};
