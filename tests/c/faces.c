@@ -1,6 +1,7 @@
 /* What include/paddockyear.h says beside the calls that officer.c makes: the words for each number, the lengths, empty slices with null
- * pointers, inputs that overlap, lane order, places of faults, what lies behind a tally's last pair or a runoff's table, and the functions
- * over structs beside the long ones. It is compiled as C99 and as C++; a call that answers anything else than due ends it with 1. */
+ * pointers, inputs that overlap, lane order, places of faults, what lies behind a tally's last pair or a runoff's table, the functions over
+ * structs beside the long ones, and the two forms of a record, by themselves and beside each other. It is compiled as C99 and as C++; a
+ * call that answers anything else than due ends it with 1. */
 
 #include "paddockyear.h"
 
@@ -15,13 +16,17 @@ enum { M = 9, N = 3, COMPARED = 2 };
 #define NONE NULL, 0
 #define EXPECT(due, call) expect(due, call, #call)
 
+/* What all calls are told: first that the record has no election's number, then that it has this one. */
+enum { NUMBER = 0x0C01FE07 };
+static uint32_t numbered, election;
+
 static uint32_t ids[N] = {1, 2, 5}, votes[N] = {5, 2, 5}, numbers[PADDOCKYEAR_NUMBERS_LENGTH(N, COMPARED)];
 static uint16_t permutations[PADDOCKYEAR_PERMUTATIONS_LENGTH(N, COMPARED)];
 static uint8_t keys[PADDOCKYEAR_KEYS_LENGTH(N, COMPARED)], sides[N] = {1, 0, 1};
 static uint8_t dice[PADDOCKYEAR_DICE_LENGTH + 1] = "123456123456123456123456123456";
 
-static uint8_t one[PADDOCKYEAR_PART_ONE_LENGTH(N, COMPARED)], two[PADDOCKYEAR_PART_TWO_LENGTH(N, COMPARED)];
-static uint8_t three[PADDOCKYEAR_PART_THREE_LENGTH(N, COMPARED)], joined[PADDOCKYEAR_RECORD_LENGTH(N, COMPARED) + 1];
+static uint8_t one[PADDOCKYEAR_PART_ONE_LENGTH(1, N, COMPARED)], two[PADDOCKYEAR_PART_TWO_LENGTH(N, COMPARED)];
+static uint8_t three[PADDOCKYEAR_PART_THREE_LENGTH(N, COMPARED)], joined[PADDOCKYEAR_RECORD_LENGTH(1, N, COMPARED) + 1];
 
 static unsigned calls;
 
@@ -37,8 +42,13 @@ static void report(const char *what) {
     calls = 0;
 }
 
+/* Of the form that is told. */
+static size_t first_length(void) { return numbered == 0 ? 8 : 12; }
+static size_t record_length(void) { return PADDOCKYEAR_RECORD_LENGTH(numbered, N, COMPARED); }
+
 static struct paddockyear_inputs lent_inputs(void) {
-    struct paddockyear_inputs in = {M, N, COMPARED, LENT(ids), LENT(votes), LENT(numbers), LENT(permutations), LENT(keys)};
+    struct paddockyear_inputs in = {numbered,      election,           M,         N, COMPARED, LENT(ids), LENT(votes),
+                                    LENT(numbers), LENT(permutations), LENT(keys)};
     return in;
 }
 
@@ -48,7 +58,8 @@ static struct paddockyear_throws lent_throws(void) {
 }
 
 static struct paddockyear_parts lent_parts(void) {
-    struct paddockyear_parts parts = {LENT(one), LENT(two), LENT(three), joined, PADDOCKYEAR_RECORD_LENGTH(N, COMPARED)};
+    struct paddockyear_parts parts = {
+        one, PADDOCKYEAR_PART_ONE_LENGTH(numbered, N, COMPARED), LENT(two), LENT(three), joined, record_length()};
     return parts;
 }
 
@@ -58,12 +69,24 @@ static void say_rules(void) {
     for (size_t i = 0; i < LENGTH(others); i++) printf("%lu %s\n", (unsigned long)others[i], paddockyear_rule(others[i]));
 }
 
-/* The lengths of the scope document's samples, and the widest. */
+/* The lengths of the scope document's samples, and the widest; with an election's number, 4 bytes more. */
 static void try_lengths(void) {
-    EXPECT(1125, (uint32_t)PADDOCKYEAR_RECORD_LENGTH(1, 1));
-    EXPECT(14347, (uint32_t)PADDOCKYEAR_RECORD_LENGTH(8, 2));
-    EXPECT(37371979, (uint32_t)PADDOCKYEAR_RECORD_LENGTH(PADDOCKYEAR_MOST_BALLOTS, PADDOCKYEAR_MOST_COMPARED));
-    EXPECT((uint32_t)PADDOCKYEAR_RECORD_LENGTH(N, COMPARED), (uint32_t)(sizeof one + sizeof two + sizeof three));
+    EXPECT(0, (uint32_t)PADDOCKYEAR_ELECTION_LENGTH(0));
+    EXPECT(4, (uint32_t)PADDOCKYEAR_ELECTION_LENGTH(1));
+    EXPECT(4, (uint32_t)PADDOCKYEAR_ELECTION_LENGTH(UINT32_MAX));
+    EXPECT(597, (uint32_t)PADDOCKYEAR_PART_ONE_LENGTH(0, 1, 1));
+    EXPECT(601, (uint32_t)PADDOCKYEAR_PART_ONE_LENGTH(1, 1, 1));
+    EXPECT(601, (uint32_t)PADDOCKYEAR_PART_ONE_LENGTH(UINT32_MAX, 1, 1));
+    EXPECT(45, (uint32_t)PADDOCKYEAR_PART_TWO_LENGTH(1, 1));
+    EXPECT(483, (uint32_t)PADDOCKYEAR_PART_THREE_LENGTH(1, 1));
+    EXPECT(1125, (uint32_t)PADDOCKYEAR_RECORD_LENGTH(0, 1, 1));
+    EXPECT(1129, (uint32_t)PADDOCKYEAR_RECORD_LENGTH(1, 1, 1));
+    EXPECT(1129, (uint32_t)PADDOCKYEAR_RECORD_LENGTH(2, 1, 1));
+    EXPECT(14347, (uint32_t)PADDOCKYEAR_RECORD_LENGTH(0, 8, 2));
+    EXPECT(14351, (uint32_t)PADDOCKYEAR_RECORD_LENGTH(1, 8, 2));
+    EXPECT(37371979, (uint32_t)PADDOCKYEAR_RECORD_LENGTH(0, PADDOCKYEAR_MOST_BALLOTS, PADDOCKYEAR_MOST_COMPARED));
+    EXPECT(37371983, (uint32_t)PADDOCKYEAR_RECORD_LENGTH(1, PADDOCKYEAR_MOST_BALLOTS, PADDOCKYEAR_MOST_COMPARED));
+    EXPECT((uint32_t)PADDOCKYEAR_RECORD_LENGTH(1, N, COMPARED), (uint32_t)(sizeof one + sizeof two + sizeof three));
     report("lengths");
 }
 
@@ -103,11 +126,11 @@ static void permute_zeros(void) {
 static void lend_nothing_to_tablet_and_mix(void) {
     uint8_t command[PADDOCKYEAR_COMMAND_LENGTH], receipt[PADDOCKYEAR_RECEIPT_LENGTH];
     uint32_t row[N] = {5, 6, 7}, out[N];
-    EXPECT(18, paddockyear_tablet(M, 1, 1, 1, 1, 1, 1, 1, NONE, LENT(command), LENT(receipt)));
-    EXPECT(18, paddockyear_tablet(M, 1, 1, 1, 1, 1, 1, 1, keys, PADDOCKYEAR_BALLOT_KEYS_LENGTH, NONE, LENT(receipt)));
-    EXPECT(18, paddockyear_tablet(M, 1, 1, 1, 1, 1, 1, 1, keys, PADDOCKYEAR_BALLOT_KEYS_LENGTH, LENT(command), NONE));
-    EXPECT(18, paddockyear_tablet(M, 1, 1, 1, 1, 1, 1, 1, NONE, NONE, NONE));
-    EXPECT(3, paddockyear_tablet(1, 1, 1, 1, 1, 1, 1, 1, NONE, NONE, NONE));
+    EXPECT(18, paddockyear_tablet(numbered, election, M, 1, 1, 1, 1, 1, 1, 1, NONE, LENT(command), LENT(receipt)));
+    EXPECT(18, paddockyear_tablet(numbered, election, M, 1, 1, 1, 1, 1, 1, 1, keys, PADDOCKYEAR_BALLOT_KEYS_LENGTH, NONE, LENT(receipt)));
+    EXPECT(18, paddockyear_tablet(numbered, election, M, 1, 1, 1, 1, 1, 1, 1, keys, PADDOCKYEAR_BALLOT_KEYS_LENGTH, LENT(command), NONE));
+    EXPECT(18, paddockyear_tablet(numbered, election, M, 1, 1, 1, 1, 1, 1, 1, NONE, NONE, NONE));
+    EXPECT(3, paddockyear_tablet(numbered, election, 1, 1, 1, 1, 1, 1, 1, 1, NONE, NONE, NONE));
     EXPECT(18, paddockyear_row_server(M, N, NONE, LENT(row), permutations, N, LENT(out)));
     EXPECT(18, paddockyear_row_server(M, N, LENT(row), NONE, permutations, N, LENT(out)));
     EXPECT(18, paddockyear_row_server(M, N, LENT(row), LENT(row), NONE, LENT(out)));
@@ -141,7 +164,7 @@ static void lend_no_inputs(void) {
     struct paddockyear_parts parts = lent_parts(), no_parts = {NONE, NONE, NONE, NONE};
     struct paddockyear_inputs without_ids = lent_inputs(), without_votes = lent_inputs(), without_numbers = lent_inputs();
     struct paddockyear_inputs without_permutations = lent_inputs(), without_keys = lent_inputs();
-    struct paddockyear_inputs nothing = {M, N, COMPARED, NONE, NONE, NONE, NONE, NONE}, no_limits = nothing;
+    struct paddockyear_inputs nothing = {numbered, election, M, N, COMPARED, NONE, NONE, NONE, NONE, NONE}, no_limits = nothing;
     without_ids.ids = NULL, without_ids.ids_length = 0;
     without_votes.votes = NULL, without_votes.votes_length = 0;
     without_numbers.numbers = NULL, without_numbers.numbers_length = 0;
@@ -201,23 +224,23 @@ static void lend_no_throws_or_parts(void) {
 
 /* The parts of single calls, joined, are the record of one call: mask and sides given, then drawn. */
 static void write_parts(void) {
-    static uint8_t again[PADDOCKYEAR_RECORD_LENGTH(N, COMPARED)];
+    static uint8_t again[PADDOCKYEAR_RECORD_LENGTH(1, N, COMPARED)];
     struct paddockyear_inputs in = lent_inputs();
     struct paddockyear_throws throws = lent_throws();
     struct paddockyear_parts parts = lent_parts(), pieces = parts;
-    pieces.one = again, pieces.two = pieces.one + sizeof one, pieces.three = pieces.two + sizeof two;
+    pieces.one = again, pieces.two = pieces.one + pieces.one_length, pieces.three = pieces.two + sizeof two;
     EXPECT(0, paddockyear_hold(&in, &throws, &parts));
     EXPECT(0, paddockyear_write_one(&in, &pieces));
     EXPECT(0, paddockyear_write_two(&in, &throws, &pieces));
     EXPECT(0, paddockyear_write_three(&in, &throws, &pieces));
-    EXPECT(0, (uint32_t)memcmp(again, joined, sizeof again));
+    EXPECT(0, (uint32_t)memcmp(again, joined, record_length()));
     throws.mask_given = throws.sides_given = 0;
     EXPECT(0, paddockyear_hold(&in, &throws, &parts));
     EXPECT(0, paddockyear_write_two_drawn(&in, &throws, &pieces));
     EXPECT(0, paddockyear_drawn_mask(&in, &throws, &pieces, &throws.mask));
     EXPECT(0, paddockyear_write_three_drawn(&in, &throws, &pieces));
-    EXPECT(0, (uint32_t)memcmp(again, joined, sizeof again));
-    EXPECT(0, paddockyear_judge_as_drawn(LENT(again)));
+    EXPECT(0, (uint32_t)memcmp(again, joined, record_length()));
+    EXPECT(0, paddockyear_judge_as_drawn(again, record_length()));
     report("functions over structs");
 }
 
@@ -235,9 +258,9 @@ static void lend_one_slice_twice(void) {
     report("inputs that overlap");
 }
 
-/* joined holds an accepted record, with room for one byte behind it. */
+/* joined holds an accepted record of one slice as ids and votes, with room for one byte behind it. */
 static void find_faults(void) {
-    size_t length = sizeof joined - 1;
+    size_t length = record_length();
     uint64_t place = 77;
     EXPECT(0, paddockyear_first_fault(joined, length, 0, &place));
     EXPECT(77, (uint32_t)place);
@@ -245,8 +268,10 @@ static void find_faults(void) {
     EXPECT((uint32_t)length, (uint32_t)place);
     EXPECT(1, paddockyear_first_fault(joined, length - 1, 0, &place)); /* no byte left for 0B */
     EXPECT((uint32_t)length - 1, (uint32_t)place);
-    EXPECT(1, paddockyear_first_fault(joined, 9, 0, &place)); /* inside the first ballot */
-    EXPECT(8, (uint32_t)place);
+    EXPECT(1, paddockyear_first_fault(joined, first_length() + 1, 0, &place)); /* inside the first ballot */
+    EXPECT((uint32_t)first_length(), (uint32_t)place);
+    EXPECT(1, paddockyear_first_fault(joined, first_length() - 1, 0, &place)); /* inside the first command */
+    EXPECT(0, (uint32_t)place);
     EXPECT(1, paddockyear_first_fault(NONE, 0, &place));
     EXPECT(0, (uint32_t)place);
     EXPECT(1, paddockyear_first_fault(NONE, 1, &place));
@@ -258,7 +283,7 @@ static void find_faults(void) {
 /* The check reads all ballots, the lookup of id 1 the first alone. */
 static void ask_for_receipts(void) {
     uint8_t receipt[PADDOCKYEAR_RECEIPT_LENGTH] = {0};
-    size_t length = sizeof joined - 1, behind_first = 8 + PADDOCKYEAR_COMMAND_LENGTH;
+    size_t length = record_length(), behind_first = first_length() + PADDOCKYEAR_COMMAND_LENGTH;
     EXPECT(18, paddockyear_check_receipt(NONE, NONE));
     EXPECT(18, paddockyear_check_receipt(joined, length, NONE));
     EXPECT(1, paddockyear_check_receipt(NONE, LENT(receipt)));
@@ -268,6 +293,10 @@ static void ask_for_receipts(void) {
     EXPECT(1, paddockyear_look_up(NONE, LENT(receipt)));
     EXPECT(PADDOCKYEAR_NOT_POSTED, paddockyear_look_up(joined, length, LENT(receipt)));
     receipt[3] = 1;
+    paddockyear_sha3_224(joined + first_length(), PADDOCKYEAR_COMMAND_LENGTH, receipt + 4);
+    EXPECT(0, paddockyear_check_receipt(joined, length, LENT(receipt)));
+    EXPECT(0, paddockyear_look_up(joined, length, LENT(receipt)));
+    receipt[4] ^= 1;
     EXPECT(PADDOCKYEAR_POSTED_OTHERWISE, paddockyear_check_receipt(joined, length, LENT(receipt)));
     EXPECT(PADDOCKYEAR_POSTED_OTHERWISE, paddockyear_look_up(joined, length, LENT(receipt)));
     EXPECT(1, paddockyear_check_receipt(joined, behind_first, LENT(receipt)));
@@ -277,13 +306,14 @@ static void ask_for_receipts(void) {
 }
 
 static void take_results(void) {
-    size_t length = sizeof joined - 1;
+    size_t length = record_length();
     uint32_t out[N], values[N] = {90, 91, 92};
     uint64_t counts[N] = {80, 81, 82};
     uint64_t pairs = 77;
     EXPECT(1, paddockyear_announced_votes(NONE, NONE));
     EXPECT(18, paddockyear_announced_votes(joined, length, NONE));
     EXPECT(0, paddockyear_announced_votes(joined, length, LENT(out)));
+    EXPECT(0, (uint32_t)memcmp(out, ids, sizeof out)); /* which are the votes of this record */
     EXPECT(18, paddockyear_tally(LENT(out), NONE, LENT(counts), &pairs));
     EXPECT(18, paddockyear_tally(LENT(out), LENT(values), NONE, &pairs));
     EXPECT(77, (uint32_t)pairs);
@@ -368,12 +398,172 @@ static void run_off(void) {
     report("runoffs");
 }
 
-int main(void) {
-    say_rules();
-    try_lengths();
-    fill_inputs();
-    hash_nothing();
-    permute_zeros();
+/* ---- The two forms beside each other */
+
+/* What all writing calls leave in one form, mask and sides given [0] and drawn [1]; a receipt and a part one are not drawn. */
+struct written {
+    uint32_t mask;
+    uint8_t command[PADDOCKYEAR_COMMAND_LENGTH], receipt[PADDOCKYEAR_RECEIPT_LENGTH], one[PADDOCKYEAR_PART_ONE_LENGTH(1, N, COMPARED)];
+    uint8_t two[2][PADDOCKYEAR_PART_TWO_LENGTH(N, COMPARED)], three[2][PADDOCKYEAR_PART_THREE_LENGTH(N, COMPARED)];
+    uint8_t joined[2][PADDOCKYEAR_RECORD_LENGTH(1, N, COMPARED)];
+};
+
+static struct written plain, with_number, other;
+
+static void tell(uint32_t flag, uint32_t number) { numbered = flag, election = number; }
+
+/* Every writing call, told a form. */
+static void write_all(uint32_t flag, uint32_t number, struct written *to) {
+    tell(flag, number);
+    struct paddockyear_inputs in = lent_inputs();
+    struct paddockyear_throws throws = lent_throws();
+    struct paddockyear_parts parts = lent_parts(), whole = parts;
+    memset(to, 0, sizeof *to);
+    EXPECT(0, paddockyear_tablet(flag, number, M, ids[0], votes[0], numbers[0], numbers[1], numbers[2], numbers[3], numbers[4], keys,
+                                 PADDOCKYEAR_BALLOT_KEYS_LENGTH, LENT(to->command), LENT(to->receipt)));
+    parts.one = to->one, parts.two = to->two[0], parts.three = to->three[0], whole.joined = to->joined[0];
+    EXPECT(0, paddockyear_write_one(&in, &parts));
+    EXPECT(0, paddockyear_write_two(&in, &throws, &parts));
+    EXPECT(0, paddockyear_write_three(&in, &throws, &parts));
+    EXPECT(0, paddockyear_hold(&in, &throws, &whole));
+    throws.mask_given = throws.sides_given = 0;
+    parts.two = to->two[1], parts.three = to->three[1], whole.joined = to->joined[1];
+    EXPECT(0, paddockyear_write_two_drawn(&in, &throws, &parts));
+    EXPECT(0, paddockyear_drawn_mask(&in, &throws, &parts, &to->mask));
+    throws.mask = to->mask;
+    EXPECT(0, paddockyear_write_three_drawn(&in, &throws, &parts));
+    EXPECT(0, paddockyear_hold(&in, &throws, &whole));
+    EXPECT(0, paddockyear_judge_as_drawn(to->joined[1], record_length()));
+}
+
+/* Flags that are not 0 are alike, and so is every number beside a flag of 0. */
+static void tell_alike(void) {
+    static const uint32_t flags[] = {2, 12, 0x100, 0x10000, 0x80000000, UINT32_MAX}, beside_none[] = {1, 12, NUMBER, UINT32_MAX};
+    write_all(1, NUMBER, &with_number);
+    for (size_t i = 0; i < LENGTH(flags); i++) {
+        write_all(flags[i], NUMBER, &other);
+        EXPECT(0, (uint32_t)memcmp(&other, &with_number, sizeof other));
+    }
+    write_all(0, 0, &plain);
+    for (size_t i = 0; i < LENGTH(beside_none); i++) {
+        write_all(0, beside_none[i], &other);
+        EXPECT(0, (uint32_t)memcmp(&other, &plain, sizeof other));
+    }
+    report("what is told alike");
+}
+
+/* The first command, and what comes behind it: with mask and sides given the same bytes, and where they are drawn, others. */
+static void compare_bytes(void) {
+    static const uint8_t first[] = {0x01, 0, 0, 0, M, 0, N, COMPARED},
+                         first_numbered[] = {0x0C, 0x0C, 1, 0xFE, 7, 0, 0, 0, M, 0, N, COMPARED};
+    static const uint32_t elections[] = {0, 1, 0x01020304, UINT32_MAX};
+    size_t behind = PADDOCKYEAR_RECORD_LENGTH(0, N, COMPARED) - sizeof first;
+    for (int drawn = 0; drawn < 2; drawn++) {
+        EXPECT(0, (uint32_t)memcmp(plain.joined[drawn], first, sizeof first));
+        EXPECT(0, (uint32_t)memcmp(with_number.joined[drawn], first_numbered, sizeof first_numbered));
+        int differs = memcmp(plain.joined[drawn] + sizeof first, with_number.joined[drawn] + sizeof first_numbered, behind) != 0;
+        EXPECT((uint32_t)drawn, (uint32_t)differs);
+    }
+    EXPECT(0, (uint32_t)memcmp(plain.joined[0] + sizeof first, plain.command, sizeof plain.command));
+    EXPECT(0, (uint32_t)memcmp(with_number.joined[0] + sizeof first_numbered, with_number.command, sizeof with_number.command));
+    for (size_t i = 0; i < LENGTH(elections); i++) {
+        write_all(1, elections[i], &other);
+        const uint8_t *number = other.joined[1] + 1;
+        EXPECT(elections[i], (uint32_t)number[0] << 24 | (uint32_t)number[1] << 16 | (uint32_t)number[2] << 8 | number[3]);
+    }
+    report("bytes of the two forms");
+}
+
+/* Fills or looks for what a refused call must leave. */
+static void fill_buffers(void) {
+    memset(one, 0xA5, sizeof one), memset(two, 0xA5, sizeof two), memset(three, 0xA5, sizeof three), memset(joined, 0xA5, sizeof joined);
+}
+
+static uint32_t filled(const uint8_t *bytes, size_t length) {
+    uint32_t same = 1;
+    for (size_t i = 0; i < length; i++) same &= bytes[i] == 0xA5;
+    return same;
+}
+
+/* Buffers of the length that the other form has, there being room for either: 18, and nothing is written. */
+static void lend_other_lengths(uint32_t flag) {
+    tell(flag, NUMBER);
+    struct paddockyear_inputs in = lent_inputs();
+    struct paddockyear_throws throws = lent_throws(), drawn = throws;
+    struct paddockyear_parts parts = lent_parts(), other_one = parts, other_joined = parts;
+    uint32_t mask = 77;
+    drawn.mask_given = drawn.sides_given = 0;
+    other_one.one_length = PADDOCKYEAR_PART_ONE_LENGTH(flag == 0, N, COMPARED);
+    other_joined.joined_length = PADDOCKYEAR_RECORD_LENGTH(flag == 0, N, COMPARED);
+    fill_buffers();
+    EXPECT(18, paddockyear_write_one(&in, &other_one));
+    EXPECT(18, paddockyear_write_two_drawn(&in, &throws, &other_one));
+    EXPECT(18, paddockyear_drawn_mask(&in, &throws, &other_one, &mask));
+    EXPECT(18, paddockyear_write_three_drawn(&in, &throws, &other_one));
+    EXPECT(18, paddockyear_hold(&in, &throws, &other_one));
+    EXPECT(18, paddockyear_hold(&in, &drawn, &other_one));
+    EXPECT(18, paddockyear_hold(&in, &throws, &other_joined));
+    EXPECT(18, paddockyear_hold(&in, &drawn, &other_joined));
+    EXPECT(77, mask);
+    EXPECT(1, filled(LENT(one)) && filled(LENT(two)) && filled(LENT(three)) && filled(LENT(joined)));
+    report("buffers of the other form's length");
+}
+
+/* Each bit 0 behind the first command changed, in both records: the same number, and its place 4 bytes further on with 0C. */
+static void find_faults_further_on(void) {
+    size_t length = PADDOCKYEAR_RECORD_LENGTH(0, N, COMPARED);
+    unsigned refused = 0;
+    for (size_t at = 8; at < length; at++) {
+        uint64_t place = 77, further = 77;
+        plain.joined[0][at] ^= 1, with_number.joined[0][at + 4] ^= 1;
+        uint32_t number = paddockyear_first_fault(plain.joined[0], length, 0, &place);
+        EXPECT(number, paddockyear_first_fault(with_number.joined[0], length + 4, 0, &further));
+        EXPECT(1, number == 0 ? place == 77 && further == 77 : further == place + 4);
+        refused += number != 0;
+        plain.joined[0][at] ^= 1, with_number.joined[0][at + 4] ^= 1;
+    }
+    printf("of records with one bit changed, %u were refused\n", refused);
+    report("places of faults in the two forms");
+}
+
+/* The first command's own faults are at 0: the byte, where it stops, its limits. The election's number has none. */
+static void spoil_first_command(void) {
+    static const uint8_t bytes[] = {0, 2, 11, 13, 0x8C, 0xFF};
+    static const struct {
+        size_t at;
+        uint8_t value;
+    } limits[] = {{8, 1}, {10, 0}, {9, 0x11}, {11, 0}, {11, 13}};
+    uint8_t *record = with_number.joined[0];
+    size_t length = PADDOCKYEAR_RECORD_LENGTH(1, N, COMPARED);
+    uint64_t place = 77;
+    for (size_t i = 0; i < LENGTH(bytes); i++) {
+        record[0] = bytes[i];
+        EXPECT(2, paddockyear_first_fault(record, length, 1, &place));
+        EXPECT(0, (uint32_t)place);
+    }
+    record[0] = 0x0C;
+    for (size_t i = 0; i < LENGTH(limits); i++) {
+        uint8_t before = record[limits[i].at];
+        record[limits[i].at] = limits[i].value;
+        EXPECT(3, paddockyear_first_fault(record, length, 1, &place));
+        EXPECT(0, (uint32_t)place);
+        record[limits[i].at] = before;
+    }
+    for (size_t cut = 1; cut <= 12; cut++) {
+        EXPECT(1, paddockyear_first_fault(record, cut, 1, &place));
+        EXPECT(cut < 12 ? 0 : 12, (uint32_t)place);
+    }
+    for (size_t at = 1; at <= 4; at++) {
+        record[at] ^= 0xFF;
+        EXPECT(0, paddockyear_judge_plainly(record, length));
+    }
+    report("the command 0C");
+}
+
+/* What is said of a record of either form. */
+static void try_form(uint32_t flag, uint32_t number) {
+    tell(flag, number);
+    printf("command %s\n", flag == 0 ? "01" : "0C");
     lend_nothing_to_tablet_and_mix();
     lend_no_inputs();
     lend_no_throws_or_parts();
@@ -382,7 +572,28 @@ int main(void) {
     find_faults();
     ask_for_receipts();
     take_results();
+}
+
+static void compare_forms(void) {
+    printf("both commands\n");
+    tell_alike();
+    compare_bytes();
+    lend_other_lengths(0);
+    lend_other_lengths(1);
+    find_faults_further_on();
+    spoil_first_command();
+}
+
+int main(void) {
+    say_rules();
+    try_lengths();
+    fill_inputs();
+    hash_nothing();
+    permute_zeros();
     refuse_runoffs();
     run_off();
+    try_form(0, 0);
+    try_form(1, NUMBER);
+    compare_forms();
     return fflush(stdout) == 0 && !ferror(stdout) ? 0 : 1;
 }

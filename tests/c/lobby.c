@@ -12,8 +12,8 @@
 
 enum { DIGITS = 2 * PADDOCKYEAR_RECEIPT_LENGTH };
 
-/* The parameters and as many ballots as there may be: no lookup reads what stands behind them. */
-static uint8_t record[8 + PADDOCKYEAR_MOST_BALLOTS * PADDOCKYEAR_COMMAND_LENGTH];
+/* The first command, of 12 bytes at most, and as many ballots as there may be: no lookup reads what stands behind them. */
+static uint8_t record[12 + PADDOCKYEAR_MOST_BALLOTS * PADDOCKYEAR_COMMAND_LENGTH];
 
 /* Takes a line, of which it keeps what there is room for; answers whether there was one. */
 static int take_line(char *line, size_t room) {

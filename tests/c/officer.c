@@ -1,6 +1,7 @@
-/* An election over the C faces, as the maker of a tablet and an election officer hold it: the votes
- * 5, 2, 5 modulo 9. Its output is fixed; a call that answers anything else than due ends it with 1.
- * Numbers, keys and dice are fixed too, which those of a true election must never be. */
+/* Two elections of one evening over the C faces, as the maker of a tablet and an election officer hold them, each with its number in its
+ * record: the votes 5, 2, 5 in election 41 and 0, 5, 8 in election 42, modulo 9. The dice are thrown once for both. Its output is fixed; a
+ * call that answers anything else than due ends it with 1. Numbers, keys and dice are fixed too, which those of a true election must never
+ * be. */
 
 #include "paddockyear.h"
 
@@ -11,27 +12,41 @@
 
 enum { MODULUS = 9, BALLOTS = 3, COMPARED = 2 };
 enum { NUMBERS = 5, KEYS = PADDOCKYEAR_BALLOT_KEYS_LENGTH, RECEIPT = PADDOCKYEAR_RECEIPT_LENGTH }; /* of one ballot */
-enum { DICE = PADDOCKYEAR_DICE_LENGTH, MASK_PLACE = 31, BALLOTS_PLACE = 8 };
+enum { DICE = PADDOCKYEAR_DICE_LENGTH, MASK_PLACE = 31, FIRST_COMMAND = 12 };
 
 /* An array as a lent slice. */
 #define LENGTH(array) (sizeof(array) / sizeof((array)[0]))
 #define LENT(array) (array), LENGTH(array)
 
-static const uint32_t ids[BALLOTS] = {1001, 1002, 1005}, votes[BALLOTS] = {5, 2, 5};
-static uint32_t numbers[PADDOCKYEAR_NUMBERS_LENGTH(BALLOTS, COMPARED)];
-static uint16_t permutations[PADDOCKYEAR_PERMUTATIONS_LENGTH(BALLOTS, COMPARED)];
-static uint8_t keys[PADDOCKYEAR_KEYS_LENGTH(BALLOTS, COMPARED)];
+/* What is told, what the tablets and servers bring, and what is written. */
+struct election {
+    uint32_t number, ids[BALLOTS], votes[BALLOTS], numbers[PADDOCKYEAR_NUMBERS_LENGTH(BALLOTS, COMPARED)];
+    uint16_t permutations[PADDOCKYEAR_PERMUTATIONS_LENGTH(BALLOTS, COMPARED)];
+    uint8_t keys[PADDOCKYEAR_KEYS_LENGTH(BALLOTS, COMPARED)];
+    uint8_t commands[BALLOTS][PADDOCKYEAR_COMMAND_LENGTH], receipts[BALLOTS][RECEIPT];
+    uint8_t one[PADDOCKYEAR_PART_ONE_LENGTH(1, BALLOTS, COMPARED)], two[PADDOCKYEAR_PART_TWO_LENGTH(BALLOTS, COMPARED)];
+    uint8_t three[PADDOCKYEAR_PART_THREE_LENGTH(BALLOTS, COMPARED)], joined[PADDOCKYEAR_RECORD_LENGTH(1, BALLOTS, COMPARED)];
+};
+
+static struct election first = {.number = 41, .ids = {1001, 1002, 1005}, .votes = {5, 2, 5}};
+static struct election second = {.number = 42, .ids = {1001, 1003, 1005}, .votes = {0, 5, 8}};
+
+/* What comes from the dice table; mask and sides are drawn. */
 static uint8_t first_dice[DICE], second_dice[DICE];
-
-static uint8_t commands[BALLOTS][PADDOCKYEAR_COMMAND_LENGTH], receipts[BALLOTS][RECEIPT];
-static uint8_t one[PADDOCKYEAR_PART_ONE_LENGTH(BALLOTS, COMPARED)], two[PADDOCKYEAR_PART_TWO_LENGTH(BALLOTS, COMPARED)];
-static uint8_t three[PADDOCKYEAR_PART_THREE_LENGTH(BALLOTS, COMPARED)], joined[PADDOCKYEAR_RECORD_LENGTH(BALLOTS, COMPARED)];
-
-/* What the servers are given, what comes from the dice table (mask and sides are drawn), and where the parts stand. */
-static const struct paddockyear_inputs inputs = {MODULUS,       BALLOTS,            COMPARED,  LENT(ids), LENT(votes),
-                                                 LENT(numbers), LENT(permutations), LENT(keys)};
 static const struct paddockyear_throws throws = {LENT(first_dice), LENT(second_dice), 0, 0, 0, NULL, 0};
-static const struct paddockyear_parts parts = {LENT(one), LENT(two), LENT(three), LENT(joined)};
+
+/* Every call of an election is told its form, here 1 for a record with a number, and that number. */
+static struct paddockyear_inputs inputs_of(const struct election *of) {
+    struct paddockyear_inputs in = {
+        1, of->number, MODULUS, BALLOTS, COMPARED, LENT(of->ids), LENT(of->votes), LENT(of->numbers), LENT(of->permutations),
+        LENT(of->keys)};
+    return in;
+}
+
+static struct paddockyear_parts parts_of(struct election *of) {
+    struct paddockyear_parts parts = {LENT(of->one), LENT(of->two), LENT(of->three), LENT(of->joined)};
+    return parts;
+}
 
 static void demand(int holds, const char *what) {
     if (!holds) {
@@ -61,10 +76,13 @@ static void shuffle(uint16_t permutation[BALLOTS]) {
     }
 }
 
-static void make_inputs(void) {
-    for (size_t i = 0; i < LENGTH(numbers); i++) numbers[i] = below(MODULUS);
-    for (size_t i = 0; i < LENGTH(permutations); i += BALLOTS) shuffle(permutations + i);
-    for (size_t i = 0; i < LENGTH(keys); i++) keys[i] = (uint8_t)below(256);
+static void make_inputs(struct election *of) {
+    for (size_t i = 0; i < LENGTH(of->numbers); i++) of->numbers[i] = below(MODULUS);
+    for (size_t i = 0; i < LENGTH(of->permutations); i += BALLOTS) shuffle(of->permutations + i);
+    for (size_t i = 0; i < LENGTH(of->keys); i++) of->keys[i] = (uint8_t)below(256);
+}
+
+static void throw_dice(void) {
     for (size_t i = 0; i < DICE; i++) first_dice[i] = (uint8_t)('1' + below(6));
     for (size_t i = 0; i < DICE; i++) second_dice[i] = (uint8_t)('1' + below(6));
 }
@@ -73,71 +91,121 @@ static uint32_t number_at(const uint8_t *bytes) {
     return (uint32_t)bytes[0] << 24 | (uint32_t)bytes[1] << 16 | (uint32_t)bytes[2] << 8 | bytes[3];
 }
 
-static void cast_votes(void) {
+static void cast_votes(struct election *of) {
     for (size_t j = 0; j < BALLOTS; j++) {
-        const uint32_t *of = numbers + NUMBERS * j; /* x, y, u1, u2, u3 */
-        uint32_t answer =
-            paddockyear_tablet(MODULUS, ids[j], votes[j], of[0], of[1], of[2], of[3], of[4],
-                               keys + KEYS * j, KEYS, LENT(commands[j]), LENT(receipts[j]));
+        const uint32_t *x = of->numbers + NUMBERS * j; /* then y, u1, u2, u3 */
+        uint32_t answer = paddockyear_tablet(1, of->number, MODULUS, of->ids[j], of->votes[j], x[0], x[1], x[2], x[3], x[4],
+                                             of->keys + KEYS * j, KEYS, LENT(of->commands[j]), LENT(of->receipts[j]));
         expect(0, answer, "tablet");
-        printf("receipt of ballot %" PRIu32 "\n", number_at(receipts[j]));
+        printf("receipt of ballot %" PRIu32 "\n", number_at(of->receipts[j]));
     }
 }
 
-static void hold_election(void) {
+/* The first command: 0C, the election's number, M, n, m. */
+static void print_first_command(const struct election *of) {
+    printf("first command:");
+    for (size_t i = 0; i < FIRST_COMMAND; i++) printf(" %02X", of->joined[i]);
+    printf("\n");
+    demand(of->joined[0] == 0x0C && number_at(of->joined + 1) == of->number, "the record has the election's number");
+}
+
+static void hold_election(struct election *of) {
+    const struct paddockyear_inputs in = inputs_of(of);
+    const struct paddockyear_parts parts = parts_of(of);
     uint32_t mask = 0;
-    expect(0, paddockyear_hold(&inputs, &throws, &parts), "election");
-    expect(0, paddockyear_drawn_mask(&inputs, &throws, &parts, &mask), "draw_mask");
-    demand(number_at(two + MASK_PLACE) == mask, "part two has the drawn mask");
+    expect(0, paddockyear_hold(&in, &throws, &parts), "election");
+    expect(0, paddockyear_drawn_mask(&in, &throws, &parts, &mask), "draw_mask");
+    demand(number_at(of->two + MASK_PLACE) == mask, "part two has the drawn mask");
+    print_first_command(of);
     printf("election held, mask drawn: %" PRIu32 "\n", mask);
-    demand(memcmp(one + BALLOTS_PLACE, commands, sizeof commands) == 0, "the ballots are as cast");
+    demand(memcmp(of->one + FIRST_COMMAND, of->commands, sizeof of->commands) == 0, "the ballots are as cast");
     printf("ballots posted: as cast\n");
 }
 
-static void judge(void) {
-    expect(0, paddockyear_judge_plainly(LENT(joined)), "judge_plainly");
-    expect(0, paddockyear_judge_as_drawn(LENT(joined)), "judge_as_drawn");
+static void judge(const struct election *of) {
+    expect(0, paddockyear_judge_plainly(LENT(of->joined)), "judge_plainly");
+    expect(0, paddockyear_judge_as_drawn(LENT(of->joined)), "judge_as_drawn");
     printf("judged plainly and as drawn: accepted\n");
 }
 
-static void check_receipt(void) {
-    uint8_t *receipt = receipts[1];
-    expect(0, paddockyear_check_receipt(LENT(joined), receipt, RECEIPT), "check_receipt");
-    expect(0, paddockyear_look_up(LENT(joined), receipt, RECEIPT), "look_up");
-    printf("receipt of ballot %" PRIu32 ": posted as printed\n", number_at(receipt));
-    receipt[RECEIPT - 1] ^= 1;
-    expect(101, paddockyear_check_receipt(LENT(joined), receipt, RECEIPT), "check_receipt");
-    expect(101, paddockyear_look_up(LENT(joined), receipt, RECEIPT), "look_up");
-    printf("with one bit changed: posted otherwise\n");
+/* What check and lookup say of a receipt, on the board of an election. */
+static void look_for(const uint8_t *receipt, const char *which, const struct election *of, uint32_t due) {
+    expect(due, paddockyear_check_receipt(LENT(of->joined), receipt, RECEIPT), "check_receipt");
+    expect(due, paddockyear_look_up(LENT(of->joined), receipt, RECEIPT), "look_up");
+    printf("receipt of ballot %" PRIu32 "%s, in election %" PRIu32 ": ", number_at(receipt), which, of->number);
+    printf("%s\n", due == 0 ? "posted as printed" : due == 101 ? "posted otherwise" : "not posted");
 }
 
-static void count_votes(void) {
+static void check_receipts(const struct election *of) {
+    uint8_t changed[RECEIPT];
+    memcpy(changed, of->receipts[1], RECEIPT);
+    changed[RECEIPT - 1] ^= 1;
+    look_for(of->receipts[1], "", of, 0);
+    look_for(changed, " with one bit changed", of, 101);
+}
+
+static void count_votes(const struct election *of) {
     uint32_t announced[BALLOTS] = {0}, values[BALLOTS] = {0};
     uint64_t counts[BALLOTS] = {0};
     uint64_t pairs = 0;
-    uint32_t answer = paddockyear_announced_votes(LENT(joined), LENT(announced));
-    expect(0, answer, "announced_votes");
-    answer = paddockyear_tally(LENT(announced), LENT(values), LENT(counts), &pairs);
-    expect(0, answer, "tally");
+    expect(0, paddockyear_announced_votes(LENT(of->joined), LENT(announced)), "announced_votes");
+    expect(0, paddockyear_tally(LENT(announced), LENT(values), LENT(counts), &pairs), "tally");
     demand(pairs <= BALLOTS, "there are no more pairs than votes");
     for (size_t i = 0; i < pairs; i++) printf("%" PRIu32 " %" PRIu64 "\n", values[i], counts[i]);
 }
 
-static void be_refused(void) {
-    permutations[0] = permutations[1];
-    memset(one, 0xA5, sizeof one);
-    expect(19, paddockyear_write_one(&inputs, &parts), "part_one");
-    for (size_t i = 0; i < sizeof one; i++) demand(one[i] == 0xA5, "the buffer is unchanged");
+static void have_election(struct election *of) {
+    printf("election %" PRIu32 "\n", of->number);
+    cast_votes(of);
+    hold_election(of);
+    judge(of);
+    check_receipts(of);
+    count_votes(of);
+}
+
+/* The two boards beside each other: an id may be on both, a receipt is of one. */
+static void compare_boards(void) {
+    printf("both elections\n");
+    demand(memcmp(first.joined, second.joined, FIRST_COMMAND) != 0, "the first commands differ");
+    demand(number_at(first.two + MASK_PLACE) != number_at(second.two + MASK_PLACE), "the draws differ");
+    printf("first commands and masks differ\n");
+    look_for(first.receipts[0], " of election 41", &second, 101);
+    look_for(first.receipts[1], " of election 41", &second, 102);
+    look_for(second.receipts[0], " of election 42", &first, 101);
+    look_for(second.receipts[1], " of election 42", &first, 102);
+}
+
+/* The number is drawn from, too: the first election's inputs and dice under the second one's number. */
+static void draw_under_other_number(void) {
+    static struct election renumbered;
+    renumbered = first;
+    renumbered.number = second.number;
+    const struct paddockyear_inputs in = inputs_of(&renumbered);
+    const struct paddockyear_parts parts = parts_of(&renumbered);
+    uint32_t mask = 0;
+    expect(0, paddockyear_write_one(&in, &parts), "part_one");
+    expect(0, paddockyear_drawn_mask(&in, &throws, &parts, &mask), "draw_mask");
+    printf("mask drawn for the ballots of election 41 under number 42: %" PRIu32 "\n", mask);
+}
+
+static void be_refused(struct election *of) {
+    const struct paddockyear_inputs in = inputs_of(of);
+    const struct paddockyear_parts parts = parts_of(of);
+    of->permutations[0] = of->permutations[1];
+    memset(of->one, 0xA5, sizeof of->one);
+    expect(19, paddockyear_write_one(&in, &parts), "part_one");
+    for (size_t i = 0; i < sizeof of->one; i++) demand(of->one[i] == 0xA5, "the buffer is unchanged");
     printf("a permutation that is none: refused with 19, the buffer unchanged\n");
 }
 
 int main(void) {
-    make_inputs();
-    cast_votes();
-    hold_election();
-    judge();
-    check_receipt();
-    count_votes();
-    be_refused();
+    make_inputs(&first);
+    make_inputs(&second);
+    throw_dice();
+    have_election(&first);
+    have_election(&second);
+    compare_boards();
+    draw_under_other_number();
+    be_refused(&first);
     return fflush(stdout) == 0 && !ferror(stdout) ? 0 : 1;
 }

@@ -10,9 +10,15 @@
 #include <string.h>
 
 /* The longest record and one byte more: what is longer than a record may be is refused by then. */
-static uint8_t record[PADDOCKYEAR_RECORD_LENGTH(PADDOCKYEAR_MOST_BALLOTS, PADDOCKYEAR_MOST_COMPARED) + 1];
+static uint8_t record[PADDOCKYEAR_RECORD_LENGTH(1, PADDOCKYEAR_MOST_BALLOTS, PADDOCKYEAR_MOST_COMPARED) + 1];
 
 static uint32_t votes[PADDOCKYEAR_MOST_BALLOTS];
+
+/* How many ballots an accepted record has. Where its first command is 0C, the election's number stands before M, n and m. */
+static size_t count_ballots(void) {
+    const uint8_t *n = record + (record[0] == 0x0C ? 9 : 5);
+    return (size_t)n[0] << 8 | n[1];
+}
 
 /* Prints a candidate's last count, and the round in which it left, if it did. */
 static void say(uint32_t number, const struct paddockyear_candidate *candidate) {
@@ -26,7 +32,7 @@ static void say(uint32_t number, const struct paddockyear_candidate *candidate) 
 /* Prints the runoff of an accepted record; answers 0, or the number of the rule that is broken. */
 static uint32_t print_runoff(size_t length, uint32_t candidates) {
     struct paddockyear_candidate table[PADDOCKYEAR_MOST_CANDIDATES];
-    size_t ballots = (size_t)record[5] << 8 | record[6];
+    size_t ballots = count_ballots();
     uint32_t winner = 0;
     uint64_t blank = 0, spoiled = 0;
     uint32_t answer = paddockyear_announced_votes(record, length, votes, ballots);

@@ -1,4 +1,5 @@
-/* A scrutineer's first program: judges a board, says where a refused one is at fault, and counts the votes of an accepted one.
+/* A scrutineer's first program: judges a board, says where a refused one is at fault, and of an accepted one prints the election's number,
+ * where it has one, and counts the votes.
  *
  *     scrutineer BOARD */
 
@@ -7,14 +8,27 @@
 #include <stdio.h>
 
 /* The longest record and one byte more: what is longer than a record may be is refused by then. */
-static uint8_t record[PADDOCKYEAR_RECORD_LENGTH(PADDOCKYEAR_MOST_BALLOTS, PADDOCKYEAR_MOST_COMPARED) + 1];
+static uint8_t record[PADDOCKYEAR_RECORD_LENGTH(1, PADDOCKYEAR_MOST_BALLOTS, PADDOCKYEAR_MOST_COMPARED) + 1];
 
 static uint32_t votes[PADDOCKYEAR_MOST_BALLOTS], values[PADDOCKYEAR_MOST_BALLOTS];
 static uint64_t counts[PADDOCKYEAR_MOST_BALLOTS];
 
+/* How many ballots an accepted record has. Where its first command is 0C, the election's number stands before M, n and m. */
+static size_t count_ballots(void) {
+    const uint8_t *n = record + (record[0] == 0x0C ? 9 : 5);
+    return (size_t)n[0] << 8 | n[1];
+}
+
+/* The number of the election, if the record names one: its bytes 1 to 4, most significant first. */
+static void print_election(void) {
+    if (record[0] != 0x0C) return;
+    uint32_t election = (uint32_t)record[1] << 24 | (uint32_t)record[2] << 16 | (uint32_t)record[3] << 8 | record[4];
+    printf("ELECTION %" PRIu32 "\n", election);
+}
+
 /* Prints the tally of an accepted record; answers 0, as it then must. */
 static uint32_t print_tally(size_t length) {
-    size_t ballots = (size_t)record[5] << 8 | record[6];
+    size_t ballots = count_ballots();
     uint64_t pairs = 0;
     uint32_t answer = paddockyear_announced_votes(record, length, votes, ballots);
     if (answer == PADDOCKYEAR_DONE) answer = paddockyear_tally(votes, ballots, values, ballots, counts, ballots, &pairs);
@@ -37,5 +51,6 @@ int main(int argc, char **argv) {
         return 1;
     }
     printf("ACCEPTED\n");
+    print_election();
     return print_tally(length) == PADDOCKYEAR_DONE ? 0 : 2;
 }

@@ -1,8 +1,9 @@
 /* The servers' first program: writes a record of three ballots to a file, throw by throw.
  *
- *     server RANDOM BOARD          as in: server /dev/urandom my.board
+ *     server RANDOM BOARD [ELECTION]          as in: server /dev/urandom my.board 7
  *
- * The dice come from standard input, a line of 30 characters '1' to '6' for each throw. */
+ * With the number of an election the record starts with command 0C and that number, without it with command 01. The dice come from standard
+ * input, a line of 30 characters '1' to '6' for each throw. */
 
 #include <inttypes.h>
 #include <paddockyear.h>
@@ -20,7 +21,7 @@ static uint32_t numbers[PADDOCKYEAR_NUMBERS_LENGTH(BALLOTS, COMPARED)];
 static uint16_t permutations[PADDOCKYEAR_PERMUTATIONS_LENGTH(BALLOTS, COMPARED)];
 static uint8_t keys[PADDOCKYEAR_KEYS_LENGTH(BALLOTS, COMPARED)];
 
-static uint8_t one[PADDOCKYEAR_PART_ONE_LENGTH(BALLOTS, COMPARED)];
+static uint8_t one[PADDOCKYEAR_PART_ONE_LENGTH(1, BALLOTS, COMPARED)]; /* with room for the election's number */
 static uint8_t two[PADDOCKYEAR_PART_TWO_LENGTH(BALLOTS, COMPARED)];
 static uint8_t three[PADDOCKYEAR_PART_THREE_LENGTH(BALLOTS, COMPARED)];
 
@@ -63,6 +64,14 @@ static void post(uint32_t answer, const char *name, const uint8_t *part, size_t 
     printf("%s is posted, %zu bytes\n", name, length);
 }
 
+/* The election's number in decimal. */
+static uint32_t read_election(const char *text) {
+    char *end;
+    unsigned long long number = strtoull(text, &end, 10);
+    demand(text[0] >= '0' && text[0] <= '9' && *end == '\0' && number <= UINT32_MAX, "the election has no such number");
+    return (uint32_t)number;
+}
+
 /* A line of dice; how many there are, and whether they are dice, is the library's to say. */
 static size_t read_dice(char *line, size_t room) {
     demand(fgets(line, (int)room, stdin) != NULL, "no dice");
@@ -70,16 +79,19 @@ static size_t read_dice(char *line, size_t room) {
 }
 
 int main(int argc, char **argv) {
-    struct paddockyear_inputs in = {MODULUS, BALLOTS, COMPARED, LENT(ids), LENT(votes), LENT(numbers), LENT(permutations), LENT(keys)};
-    struct paddockyear_parts parts = {LENT(one), LENT(two), LENT(three), NULL, 0};
+    uint32_t numbered = argc == 4, election = numbered ? read_election(argv[3]) : 0;
+    size_t one_length = PADDOCKYEAR_PART_ONE_LENGTH(numbered, BALLOTS, COMPARED);
+    struct paddockyear_inputs in = {numbered,      election,           MODULUS,   BALLOTS, COMPARED, LENT(ids), LENT(votes),
+                                    LENT(numbers), LENT(permutations), LENT(keys)};
+    struct paddockyear_parts parts = {one, one_length, LENT(two), LENT(three), NULL, 0};
     struct paddockyear_throws throws = {0};
     char first[80], second[80];
-    demand(argc == 3, "usage: server RANDOM BOARD");
+    demand(argc == 3 || argc == 4, "usage: server RANDOM BOARD [ELECTION]");
     FILE *random = fopen(argv[1], "rb"), *board = fopen(argv[2], "wb");
     demand(random != NULL && board != NULL, "a file cannot be opened");
     make_inputs(random);
 
-    post(paddockyear_write_one(&in, &parts), "part one", LENT(one), board);
+    post(paddockyear_write_one(&in, &parts), "part one", one, one_length, board);
 
     throws.first_dice_length = read_dice(first, sizeof first);
     throws.first_dice = (const uint8_t *)first;

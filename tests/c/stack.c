@@ -1,6 +1,7 @@
 /* Shows that each call keeps to its bound of include/paddockyear.h, with as many ballots and lists as there may be: by what it touches of a
- * painted stack, and by a run on a thread that has so much stack and no more. The figures go to standard error; a call that touches more is
- * printed as such, which makes the output another than due, and a thread that needs more ends the program by a signal. */
+ * painted stack, and by a run on a thread that has so much stack and no more. Those that write or read a record do so in both forms. The
+ * figures go to standard error; a call that touches more is printed as such, which makes the output another than due, and a thread that
+ * needs more ends the program by a signal. */
 
 #include "paddockyear.h"
 #include "support.h"
@@ -20,13 +21,13 @@ enum { MODULUS = 1000003, BALLOTS = PADDOCKYEAR_MOST_BALLOTS, COMPARED = PADDOCK
 static uint32_t ids[BALLOTS], votes[BALLOTS], numbers[PADDOCKYEAR_NUMBERS_LENGTH(BALLOTS, COMPARED)];
 static uint16_t permutations[PADDOCKYEAR_PERMUTATIONS_LENGTH(BALLOTS, COMPARED)];
 static uint8_t keys[PADDOCKYEAR_KEYS_LENGTH(BALLOTS, COMPARED)], dice[PADDOCKYEAR_DICE_LENGTH], sides[BALLOTS];
-static uint8_t one[PADDOCKYEAR_PART_ONE_LENGTH(BALLOTS, COMPARED)], two[PADDOCKYEAR_PART_TWO_LENGTH(BALLOTS, COMPARED)];
-static uint8_t three[PADDOCKYEAR_PART_THREE_LENGTH(BALLOTS, COMPARED)], joined[PADDOCKYEAR_RECORD_LENGTH(BALLOTS, COMPARED)];
+static uint8_t one[PADDOCKYEAR_PART_ONE_LENGTH(1, BALLOTS, COMPARED)], two[PADDOCKYEAR_PART_TWO_LENGTH(BALLOTS, COMPARED)];
+static uint8_t three[PADDOCKYEAR_PART_THREE_LENGTH(BALLOTS, COMPARED)], joined[PADDOCKYEAR_RECORD_LENGTH(1, BALLOTS, COMPARED)];
 
-static const struct paddockyear_inputs in = {MODULUS,       BALLOTS,            COMPARED,  LENT(ids), LENT(votes),
-                                             LENT(numbers), LENT(permutations), LENT(keys)};
+static struct paddockyear_inputs in = {
+    1, UINT32_MAX, MODULUS, BALLOTS, COMPARED, LENT(ids), LENT(votes), LENT(numbers), LENT(permutations), LENT(keys)};
 static struct paddockyear_throws throws = {LENT(dice), LENT(dice), 0, 0, 0, LENT(sides)};
-static const struct paddockyear_parts parts = {LENT(one), LENT(two), LENT(three), LENT(joined)};
+static struct paddockyear_parts parts = {LENT(one), LENT(two), LENT(three), LENT(joined)};
 
 static uint8_t command[PADDOCKYEAR_COMMAND_LENGTH], receipt[PADDOCKYEAR_RECEIPT_LENGTH], digest[32];
 static uint32_t out[BALLOTS], values[BALLOTS], answer;
@@ -41,7 +42,8 @@ static void sha3_256(void) { paddockyear_sha3_256(LENT(keys), digest), answer = 
 static void sha3_224_parts(void) { paddockyear_sha3_224_parts(LENT(keys), LENT(dice), LENT(keys), digest), answer = 0; }
 static void sha3_256_parts(void) { paddockyear_sha3_256_parts(LENT(keys), LENT(dice), LENT(keys), digest), answer = 0; }
 static void tablet(void) {
-    answer = paddockyear_tablet(MODULUS, 5, 4, 3, 2, 1, 2, 3, keys, PADDOCKYEAR_BALLOT_KEYS_LENGTH, LENT(command), LENT(receipt));
+    answer = paddockyear_tablet(in.numbered, in.election, MODULUS, 5, 4, 3, 2, 1, 2, 3, keys, PADDOCKYEAR_BALLOT_KEYS_LENGTH, LENT(command),
+                                LENT(receipt));
 }
 static void row_server(void) {
     answer = paddockyear_row_server(MODULUS, BALLOTS, numbers, BALLOTS, numbers, BALLOTS, permutations, BALLOTS, LENT(out));
@@ -57,12 +59,12 @@ static void part_two(void) { answer = paddockyear_write_two(&in, &throws, &parts
 static void part_three_drawn(void) { answer = paddockyear_write_three_drawn(&in, &throws, &parts); }
 static void part_three(void) { answer = paddockyear_write_three(&in, &throws, &parts); }
 static void election(void) { answer = paddockyear_hold(&in, &throws, &parts); }
-static void judge_plainly(void) { answer = paddockyear_judge_plainly(LENT(joined)); }
-static void judge_as_drawn(void) { answer = paddockyear_judge_as_drawn(LENT(joined)); }
-static void first_fault(void) { answer = paddockyear_first_fault(LENT(joined), 1, &place); }
-static void check_receipt(void) { answer = paddockyear_check_receipt(joined, sizeof joined, LENT(receipt)) == 101 ? 0 : 1; }
-static void look_up(void) { answer = paddockyear_look_up(joined, sizeof joined, LENT(receipt)) == 101 ? 0 : 1; }
-static void announced_votes(void) { answer = paddockyear_announced_votes(LENT(joined), LENT(out)); }
+static void judge_plainly(void) { answer = paddockyear_judge_plainly(joined, parts.joined_length); }
+static void judge_as_drawn(void) { answer = paddockyear_judge_as_drawn(joined, parts.joined_length); }
+static void first_fault(void) { answer = paddockyear_first_fault(joined, parts.joined_length, 1, &place); }
+static void check_receipt(void) { answer = paddockyear_check_receipt(joined, parts.joined_length, LENT(receipt)) == 101 ? 0 : 1; }
+static void look_up(void) { answer = paddockyear_look_up(joined, parts.joined_length, LENT(receipt)) == 101 ? 0 : 1; }
+static void announced_votes(void) { answer = paddockyear_announced_votes(joined, parts.joined_length, LENT(out)); }
 static void tally(void) { answer = paddockyear_tally(LENT(out), LENT(values), LENT(counts), &pairs); }
 static void runoff(void) {
     answer = paddockyear_runoff(LENT(votes), PADDOCKYEAR_MOST_CANDIDATES, LENT(table), &winner, &blank, &spoiled);
@@ -77,16 +79,8 @@ struct row {
 #define ROW(call, most) {#call, call, most}
 
 /* In an order in which each call finds what it needs. */
-static const struct row rows[] = {
-    ROW(keccak_f, PADDOCKYEAR_STACK),
-    ROW(sha3_224, PADDOCKYEAR_STACK),
-    ROW(sha3_256, PADDOCKYEAR_STACK),
-    ROW(sha3_224_parts, PADDOCKYEAR_STACK),
-    ROW(sha3_256_parts, PADDOCKYEAR_STACK),
+static const struct row with_record[] = {
     ROW(tablet, PADDOCKYEAR_STACK),
-    ROW(row_server, PADDOCKYEAR_STACK),
-    ROW(third_row_offsets, PADDOCKYEAR_STACK),
-    ROW(split, PADDOCKYEAR_STACK),
     ROW(part_one, PADDOCKYEAR_STACK_WRITING),
     ROW(part_two_drawn, PADDOCKYEAR_STACK_WRITING),
     ROW(draw_mask, PADDOCKYEAR_STACK),
@@ -100,6 +94,18 @@ static const struct row rows[] = {
     ROW(check_receipt, PADDOCKYEAR_STACK),
     ROW(look_up, PADDOCKYEAR_STACK),
     ROW(announced_votes, PADDOCKYEAR_STACK_JUDGING),
+};
+
+/* The tally is of the votes that were announced last. */
+static const struct row without_record[] = {
+    ROW(keccak_f, PADDOCKYEAR_STACK),
+    ROW(sha3_224, PADDOCKYEAR_STACK),
+    ROW(sha3_256, PADDOCKYEAR_STACK),
+    ROW(sha3_224_parts, PADDOCKYEAR_STACK),
+    ROW(sha3_256_parts, PADDOCKYEAR_STACK),
+    ROW(row_server, PADDOCKYEAR_STACK),
+    ROW(third_row_offsets, PADDOCKYEAR_STACK),
+    ROW(split, PADDOCKYEAR_STACK),
     ROW(tally, PADDOCKYEAR_STACK),
     ROW(runoff, PADDOCKYEAR_STACK),
 };
@@ -191,10 +197,22 @@ static void show_all(void (*show_one)(const struct row *), const struct row *all
     for (size_t i = 0; i < count; i++) show_one(&all[i]);
 }
 
+static void show_form(uint32_t numbered, const char *command) {
+    in.numbered = numbered;
+    parts.one_length = PADDOCKYEAR_PART_ONE_LENGTH(numbered, BALLOTS, COMPARED);
+    parts.joined_length = PADDOCKYEAR_RECORD_LENGTH(numbered, BALLOTS, COMPARED);
+    printf("records with command %s\n", command);
+    fprintf(stderr, "records with command %s\n", command);
+    show_all(show, LENT(with_record));
+}
+
 int main(void) {
     fill();
     measure_taken();
-    show_all(show, LENT(rows));
+    show_form(0, "01");
+    show_form(1, "0C");
+    printf("without a record\n");
+    show_all(show, LENT(without_record));
     show_all(show_starved, LENT(starved));
     return 0;
 }

@@ -1,8 +1,9 @@
 /* A tablet's first program: casts one ballot and prints its receipt.
  *
- *     tablet ID VOTE < /dev/urandom
+ *     tablet ID VOTE [ELECTION] < /dev/urandom
  *
- * The numbers and keys that hide the vote come from standard input. They must be random, and are used for one ballot only. */
+ * ELECTION is the election's number; without it the ballot is for a record that has none. The numbers and keys that hide the vote come from
+ * standard input. They must be random, and are used for one ballot only. */
 
 #include <ctype.h>
 #include <inttypes.h>
@@ -41,17 +42,18 @@ static uint32_t take_number(void) {
 int main(int argc, char **argv) {
     uint8_t keys[PADDOCKYEAR_BALLOT_KEYS_LENGTH];
     uint8_t command[PADDOCKYEAR_COMMAND_LENGTH], receipt[PADDOCKYEAR_RECEIPT_LENGTH];
-    if (argc != 3) {
-        fputs("usage: tablet ID VOTE < /dev/urandom\n", stderr);
+    if (argc != 3 && argc != 4) {
+        fputs("usage: tablet ID VOTE [ELECTION] < /dev/urandom\n", stderr);
         return 2;
     }
     uint32_t id = read_number(argv[1]), vote = read_number(argv[2]);
+    uint32_t numbered = argc == 4, election = numbered ? read_number(argv[3]) : 0;
     uint32_t x = take_number(), y = take_number();                       /* two of the three shares of the vote */
     uint32_t u1 = take_number(), u2 = take_number(), u3 = take_number(); /* the first halves of all three */
     take(keys, sizeof keys);
 
-    uint32_t answer = paddockyear_tablet(MODULUS, id, vote, x, y, u1, u2, u3, keys, sizeof keys, command, sizeof command, receipt,
-                                         sizeof receipt);
+    uint32_t answer = paddockyear_tablet(numbered, election, MODULUS, id, vote, x, y, u1, u2, u3, keys, sizeof keys, command,
+                                         sizeof command, receipt, sizeof receipt);
     if (answer != PADDOCKYEAR_DONE) {
         printf("ballot %" PRIu32 " is not cast: rule %" PRIu32 ", %s\n", id, answer, paddockyear_rule(answer));
         return 1;
