@@ -7,6 +7,7 @@
 
 enum { MAX_BALLOTS = 4096, MAX_M = 12, DICE = 30, SEED = 86 };
 enum { COMMITMENT = 32, OPENING = 36 };
+enum { PARAMETERS = 0x01, NUMBERED_PARAMETERS = 0x0C, ELECTION = 4 };
 
 enum refusal {
     STOPS = 1,
@@ -70,10 +71,10 @@ static void hash(const EVP_MD *md, const uint8_t *m, size_t length, uint8_t *out
     check(EVP_DigestFinal_ex(hashing, out, NULL));
 }
 
-/* A record being read: the next command's place, and that of the one read last. */
+/* A record being read: the next command's place, that of the one read last, and the first ballot's. */
 struct board {
     const uint8_t *record;
-    size_t length, next, place, hashed;
+    size_t length, next, place, hashed, first_ballot;
     int drawn;
     uint32_t modulus, n, m, mask;
     uint32_t compared[MAX_M], opened[MAX_M];
@@ -101,17 +102,17 @@ static int command(struct board *b, uint8_t code, size_t width, const uint8_t **
 }
 
 static const uint8_t *ballot_commitments(const struct board *b, uint32_t ballot) {
-    return b->record + 8 + 197 * (size_t)ballot + 5;
+    return b->record + b->first_ballot + 197 * (size_t)ballot + 5;
 }
 
 static const uint8_t *entry_commitments(const struct board *b, uint32_t list, uint32_t position) {
     size_t entry = (size_t)list * b->n + position;
-    return b->record + 8 + 197 * (size_t)b->n + 196 * entry + 4;
+    return b->record + b->first_ballot + 197 * (size_t)b->n + 196 * entry + 4;
 }
 
 /* The operands of the link of this ballot in the compared list of this rank. */
 static const uint8_t *link_operands(const struct board *b, uint32_t rank, uint32_t ballot) {
-    size_t first_dice = 8 + 197 * (size_t)b->n + 392 * (size_t)b->m * b->n;
+    size_t first_dice = b->first_ballot + 197 * (size_t)b->n + 392 * (size_t)b->m * b->n;
     return b->record + first_dice + 35 + 10 * ((size_t)rank * b->n + ballot) + 1;
 }
 
@@ -203,9 +204,16 @@ static uint32_t sum(const struct board *b, const uint8_t *openings, int count) {
     return (uint32_t)(total % b->modulus);
 }
 
+/* In either form: one has the election's number before M, n and m. */
 static int parameters(struct board *b) {
     const uint8_t *operands;
-    TRY(command(b, 0x01, 7, &operands));
+    if (b->length > 0 && b->record[0] == NUMBERED_PARAMETERS) {
+        TRY(command(b, NUMBERED_PARAMETERS, ELECTION + 7, &operands));
+        operands += ELECTION;
+    } else {
+        TRY(command(b, PARAMETERS, 7, &operands));
+    }
+    b->first_ballot = b->next;
     b->modulus = number_at(operands, 4);
     b->n = number_at(operands + 4, 2);
     b->m = operands[6];
