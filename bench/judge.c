@@ -71,7 +71,7 @@ static void hash(const EVP_MD *md, const uint8_t *m, size_t length, uint8_t *out
     check(EVP_DigestFinal_ex(hashing, out, NULL));
 }
 
-/* A record being read: the next command's place, that of the one read last, and the first ballot's. */
+/* A record being read: the places of the next command, of the one read last, of the first ballot. */
 struct board {
     const uint8_t *record;
     size_t length, next, place, hashed, first_ballot;

@@ -1,26 +1,29 @@
-/* Times of the product's judge and of the C judge over OpenSSL, both as drawn, taken in turn in one
- * run: their ratios, the growth from board to board and from the first to the last, and the stack
- * that the product's judge uses. The boards come from standard input. */
+/* Times of the product's judge and of the C judge over OpenSSL, both as drawn, on boards of either
+ * form, taken in turn in one run: their ratios, those of one form to the other, the growth from
+ * board to board and from the first to the last, and the stack that the product's judge uses. */
 
+#include "inputs.h"
 #include "judge.h"
-#include "paddockyear.h"
 #include "support.h"
 
 #include <math.h>
 #include <stdio.h>
+#include <stdlib.h>
 
 #define RATIO_AIM 0.85
+#define FORMS_AIM 1.02
 #define GROWTH_AIM 4.2
 
-enum { REPETITIONS = 20, MAX_BOARDS = 8 };
+enum { REPETITIONS = 20 };
 
-static struct posted boards[MAX_BOARDS];
-static struct row {
+static struct board {
+    uint8_t *record;
+    size_t length;
     double ours, plain_c;
-} rows[MAX_BOARDS];
-static int count;
+} boards[FORMS][SIZES];
 
-static const struct posted *board;
+/* The one that is judged. */
+static const struct board *board;
 
 static void ours(void) {
     demand(paddockyear_judge_as_drawn(board->record, board->length) == 0, "our judge refuses");
@@ -31,68 +34,89 @@ static void plain_c(void) {
     demand(judge(board->record, board->length, 1, &place) == 0, "the C judge refuses");
 }
 
-static void read_boards(void) {
-    while (count < MAX_BOARDS && read_board(&boards[count])) {
-        rows[count++] = (struct row){INFINITY, INFINITY};
-    }
-    demand(count > 0, "no boards");
+/* By the product, from the same inputs in both forms; the C judge must accept them, too. */
+static struct board write_board(int form, int size) {
+    struct election of = lent_election(size, form);
+    of.parts.joined = malloc(of.parts.joined_length);
+    demand(of.parts.joined != NULL, "no memory");
+    demand(paddockyear_hold(&of.in, &of.throws, &of.parts) == 0, "the election is refused");
+    return (struct board){of.parts.joined, of.parts.joined_length, INFINITY, INFINITY};
 }
 
-static unsigned ballots(int i) { return (unsigned)boards[i].record[5] << 8 | boards[i].record[6]; }
+static void write_boards(void) {
+    make_elections();
+    for (int form = 0; form < FORMS; form++) {
+        for (int size = 0; size < SIZES; size++) boards[form][size] = write_board(form, size);
+    }
+}
+
+static void time_board(struct board *of, unsigned runs) {
+    board = of;
+    of->ours = smaller(time_each(ours, runs), of->ours);
+    of->plain_c = smaller(time_each(plain_c, runs), of->plain_c);
+}
 
 /* The best of each judge and board, all taken in turn, and each timing over as many ballots. */
 static void time_boards(void) {
     for (int repetition = 0; repetition < REPETITIONS; repetition++) {
-        for (int i = 0; i < count; i++) {
-            unsigned runs = ballots(count - 1) / ballots(i);
-            demand(runs > 0, "the last board is not the largest");
-            board = &boards[i];
-            rows[i].ours = smaller(time_each(ours, runs), rows[i].ours);
-            rows[i].plain_c = smaller(time_each(plain_c, runs), rows[i].plain_c);
+        for (int size = 0; size < SIZES; size++) {
+            unsigned runs = MOST / (LEAST << size);
+            for (int form = 0; form < FORMS; form++) time_board(&boards[form][size], runs);
         }
     }
 }
 
-static void print_times(void) {
-    for (int i = 0; i < count; i++) {
-        printf("Judging n = %4u, m = %2u   ours %9.3f ms   C judge %9.3f ms   ratio %.3f",
-               ballots(i), boards[i].record[7], 1e3 * rows[i].ours, 1e3 * rows[i].plain_c,
-               rows[i].ours / rows[i].plain_c);
-        printf(" (aim: at most %.2f)\n", RATIO_AIM);
-    }
+static void print_times(int form, int size) {
+    const struct board *of = &boards[form][size];
+    printf("Judging %s, n = %4d, m = %d   ours %9.3f ms   C judge %9.3f ms   ratio %.3f",
+           first_command(form), LEAST << size, COMPARED, 1e3 * of->ours, 1e3 * of->plain_c,
+           of->ours / of->plain_c);
+    printf(" (aim: at most %.2f)\n", RATIO_AIM);
 }
 
-static void print_growth(int from, int to) {
-    printf("Growth from %4u to %4u   ours %9.3f      C judge %9.3f", ballots(from), ballots(to),
-           rows[to].ours / rows[from].ours, rows[to].plain_c / rows[from].plain_c);
+static void print_forms(int size) {
+    const struct board *plain = &boards[PLAIN][size], *numbered = &boards[NUMBERED][size];
+    printf("0C over 01, n = %4d           ours %9.3f      C judge %9.3f", LEAST << size,
+           numbered->ours / plain->ours, numbered->plain_c / plain->plain_c);
+    printf("   (aim for ours: at most %.2f)\n", FORMS_AIM);
 }
 
-static void print_growths(void) {
-    for (int i = 1; i < count; i++) {
-        print_growth(i - 1, i);
+static void print_growth(int form, int from, int to) {
+    const struct board *before = &boards[form][from], *after = &boards[form][to];
+    printf("Growth %s from %4d to %4d    ours %9.3f      C judge %9.3f", first_command(form),
+           LEAST << from, LEAST << to, after->ours / before->ours,
+           after->plain_c / before->plain_c);
+}
+
+static void print_growths(int form) {
+    for (int size = 1; size < SIZES; size++) {
+        print_growth(form, size - 1, size);
         printf("\n");
     }
-    print_growth(0, count - 1);
+    print_growth(form, 0, SIZES - 1);
     printf("   (aim for ours: at most %.1f)\n", GROWTH_AIM);
 }
 
 static void print_stack(void) {
     size_t most = 0;
-    for (int i = 0; i < count; i++) {
-        board = &boards[i];
+    for (int i = 0; i < FORMS * SIZES; i++) {
+        board = &boards[i / SIZES][i % SIZES];
         size_t used = stack_of(ours);
         most = used > most ? used : most;
     }
-    printf("Stack of our judge         %zu bytes (aim: at most %d)\n", most,
+    printf("Stack of our judge             %zu bytes (aim: at most %d)\n", most,
            PADDOCKYEAR_STACK_JUDGING);
 }
 
 int main(void) {
     demand(judge_start(), "no SHA-3 in OpenSSL");
-    read_boards();
+    write_boards();
     time_boards();
-    print_times();
-    print_growths();
+    for (int form = 0; form < FORMS; form++) {
+        for (int size = 0; size < SIZES; size++) print_times(form, size);
+    }
+    for (int size = 0; size < SIZES; size++) print_forms(size);
+    for (int form = 0; form < FORMS; form++) print_growths(form);
     print_stack();
     judge_stop();
     return 0;

@@ -1,6 +1,7 @@
-/* Times of the product's receipt lookup, for the first, the middle and the last id of a board,
- * beside those of its receipt check, which reads all ballots: their ratios, all from one run. Both
- * hash the one ballot that has the id; the second ratio is of what they take beside that hash. */
+/* Times of the product's receipt lookup, for the first, the middle and the last id of a board of
+ * either form, beside those of its receipt check, which reads all ballots: their ratios, all from
+ * one run. Both hash the one ballot that has the id; the second ratio is of what they take beside
+ * that hash. */
 
 #include "paddockyear.h"
 #include "support.h"
@@ -11,31 +12,35 @@
 
 #define AIM 0.01
 
-enum { REPETITIONS = 40, CALLS = 50, MOST = 4096, FIRST = 8, COMMAND = PADDOCKYEAR_COMMAND_LENGTH };
+enum { REPETITIONS = 40, CALLS = 50, MOST = 4096, COMMAND = PADDOCKYEAR_COMMAND_LENGTH };
 
-static uint8_t board[FIRST + MOST * COMMAND], receipt[PADDOCKYEAR_RECEIPT_LENGTH];
-static size_t length;
+static uint8_t board[12 + MOST * COMMAND], receipt[PADDOCKYEAR_RECEIPT_LENGTH];
+static size_t length, first; /* of the board and of its first command */
 
 static void put4(uint8_t *at, uint32_t x) {
     for (int i = 0; i < 4; i++) at[i] = (uint8_t)(x >> (24 - 8 * i));
 }
 
+/* Ballot j, from 0. */
+static uint8_t *command(uint32_t j) { return board + first + j * COMMAND; }
+
 /* The parameters and all ballots; neither lookup nor check looks into the commitments. */
-static void make_board(uint32_t n) {
-    const uint8_t first[FIRST] = {1, 0, 0, 0, 100, (uint8_t)(n >> 8), (uint8_t)n, 12};
-    length = FIRST + n * COMMAND;
+static void make_board(int numbered, uint32_t n) {
+    const uint8_t parameters[] = {0, 0, 0, 100, (uint8_t)(n >> 8), (uint8_t)n, 12};
+    first = numbered ? 12 : 8;
+    length = first + n * COMMAND;
     for (size_t i = 0; i < length; i++) board[i] = (uint8_t)(i * 167 >> 3);
-    memcpy(board, first, FIRST);
+    board[0] = numbered ? 0x0C : 0x01;
+    memcpy(board + first - sizeof parameters, parameters, sizeof parameters);
     for (uint32_t j = 0; j < n; j++) {
-        board[FIRST + j * COMMAND] = 2;
-        put4(board + FIRST + j * COMMAND + 1, 3 * j + 1);
+        *command(j) = 2;
+        put4(command(j) + 1, 3 * j + 1);
     }
 }
 
 static void take_receipt(uint32_t j) {
-    const uint8_t *command = board + FIRST + j * COMMAND;
-    memcpy(receipt, command + 1, 4);
-    paddockyear_sha3_224(command, COMMAND, receipt + 4);
+    memcpy(receipt, command(j) + 1, 4);
+    paddockyear_sha3_224(command(j), COMMAND, receipt + 4);
 }
 
 static void look_up(void) {
@@ -54,7 +59,7 @@ static void check(void) {
 
 static void hash(void) {
     uint8_t digest[28];
-    for (int i = 0; i < CALLS; i++) paddockyear_sha3_224(board + FIRST, COMMAND, digest);
+    for (int i = 0; i < CALLS; i++) paddockyear_sha3_224(command(0), COMMAND, digest);
 }
 
 /* The best of each, taken in turn. */
@@ -66,23 +71,25 @@ static void compare(uint32_t n, const char *which, uint32_t j, const char *aim) 
         checking = smaller(checking, time_once(check) / CALLS);
         hashing = smaller(hashing, time_once(hash) / CALLS);
     }
-    printf("Lookup n = %4u, %-9s ours %9.3f us   check   %9.3f us   ratio %.3f", n, which,
-           1e6 * looking, 1e6 * checking, looking / checking);
+    printf("Lookup %02X, n = %4u, %-9s   ours %9.3f us   check   %9.3f us   ratio %.3f", board[0],
+           n, which, 1e6 * looking, 1e6 * checking, looking / checking);
     printf(", beside the hash (%.3f us) %.3f%s\n", 1e6 * hashing,
            (looking - hashing) / (checking - hashing), aim);
 }
 
-static void compare_ids(uint32_t n) {
+static void compare_ids(int numbered, uint32_t n) {
     char aim[40];
     snprintf(aim, sizeof aim, " (aim: at most %.2f)", AIM);
-    make_board(n);
+    make_board(numbered, n);
     compare(n, "first id", 0, aim);
     compare(n, "middle id", n / 2, "");
     compare(n, "last id", n - 1, "");
 }
 
 int main(void) {
-    compare_ids(MOST / 4);
-    compare_ids(MOST);
+    for (int numbered = 0; numbered < 2; numbered++) {
+        compare_ids(numbered, MOST / 4);
+        compare_ids(numbered, MOST);
+    }
     return 0;
 }
