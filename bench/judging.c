@@ -14,7 +14,7 @@
 #define FORMS_AIM 1.02
 #define GROWTH_AIM 4.2
 
-enum { REPETITIONS = 20 };
+enum { REPETITIONS = 16 };
 
 static struct board {
     uint8_t *record;

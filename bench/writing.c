@@ -13,7 +13,7 @@
 
 #define AIM 1.06
 
-enum { REPETITIONS = 12, PARTS = 3, SEED = 86, OPENING = 36 };
+enum { REPETITIONS = 16, PARTS = 3, SEED = 86, OPENING = 36 };
 
 /* Of a ballot, and of an entry of each list. */
 enum { COMMITMENTS = 6 * (1 + LISTS) };
