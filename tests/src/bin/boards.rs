@@ -1,8 +1,7 @@
 //! Writes boards with the reference's verdicts to standard output: honest and damaged ones of
-//! either form, with the argument `unnumbered` those of a time without 0C and the verdicts of then,
-//! or with `large` honest ones of 1,024, 2,048 and 4,096 ballots and 24 lists. Each has its length
-//! in 8 bytes, then for plain and for drawn judging the number in 1 byte and the place in 8, then
-//! the record.
+//! either form, or with the argument `unnumbered` those of a time without 0C and the verdicts of
+//! then. Each has its length in 8 bytes, then for plain and for drawn judging the number in 1 byte
+//! and the place in 8, then the record.
 
 use std::env;
 use std::io::{self, BufWriter, Write};
@@ -59,22 +58,10 @@ fn put_damaged(out: &mut impl Write, edition: Edition, random: &mut Random) -> i
     Ok(())
 }
 
-fn put_large(out: &mut impl Write, random: &mut Random) -> io::Result<()> {
-    for n in [1024, 2048, 4096] {
-        let parameters = Parameters::unnumbered(u32::MAX, n, 12);
-        put(out, NOW, &honest(random, parameters, BOTH).record())?;
-    }
-    Ok(())
-}
-
 fn main() -> io::Result<()> {
     let random = &mut Random::new(70);
     let out = &mut BufWriter::new(io::stdout().lock());
     let edition = match env::args().nth(1).as_deref() {
-        Some("large") => {
-            put_large(out, random)?;
-            return out.flush();
-        }
         Some("unnumbered") => Edition { numbered: false, ..NOW },
         Some(other) => panic!("no boards are called {other}"),
         None => NOW,
