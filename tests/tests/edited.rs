@@ -1,10 +1,10 @@
 //! Calls of public functions as no face makes them, so that their edits are tried on these too, and
 //! short ones of the runoff; with the feature `edited`. Programs alone call `put_result`,
-//! `put_refused` and `put_lines`.
+//! `put_election`, `put_refused` and `put_lines`.
 
 use paddockyear_tests::boards::samples::files;
 use paddockyear_tests::boards::{honest, inputs, BOTH};
-use paddockyear_tests::edited::protocol::Verdict;
+use paddockyear_tests::edited::protocol::{Form, Verdict};
 use paddockyear_tests::edited::runoff as edited_runoff;
 use paddockyear_tests::edited::{limits, results, verifier, wire};
 use paddockyear_tests::random::Random;
@@ -27,6 +27,20 @@ fn lines_of_the_tally() {
     let end = results::page::put_result(&board, &mut out, 5);
     assert_eq!(&out[5..end], b"1 3\n34 2\n51 1\n86 2\n");
     assert!(out[..5].iter().chain(&out[end..]).all(|byte| *byte == 0));
+}
+
+#[test]
+fn line_of_an_election() {
+    let line = |form| {
+        let mut out = vec![0u8; 5 + 20];
+        let end = results::page::put_election(form, &mut out, 5);
+        assert!(out[..5].iter().chain(&out[end..]).all(|byte| *byte == 0));
+        String::from_utf8(out[5..end].to_vec()).unwrap()
+    };
+    assert_eq!(line(Form::Unnumbered), "");
+    for election in [0, 7, 120, u32::MAX] {
+        assert_eq!(line(Form::Numbered(election)), format!("ELECTION {election}\n"));
+    }
 }
 
 #[test]
@@ -53,6 +67,17 @@ fn lines_of_the_runoff() {
     assert_eq!(lines(&votes, 4), due);
     let due = "ROUND\t#1\tLEAVES\n1\t0\t-\nWINNER\tNONE\nBLANK\t1\nSPOILED\t2\n";
     assert_eq!(lines(&[0, 2, 11], 1), due);
+}
+
+/// Records that end with their first command, or a byte before.
+#[test]
+fn first_commands() {
+    for (name, width) in [("one-ballot.board", 8), ("numbered-one-ballot.board", 12)] {
+        let (_, board) = files().into_iter().find(|(file, _)| file == name).unwrap();
+        for end in [width - 1, width] {
+            assert_eq!(verifier::judge_plainly(&board[..end]), Verdict::Refused(1));
+        }
+    }
 }
 
 /// A record that ends with the second dice, and other first dice than those that the mask was drawn
