@@ -2,11 +2,10 @@
 use mathlib.Core.Path.{_≡_, refl, sym, ap, _∙_}
 use mathlib.Core.Logic.{_≢_}
 use mathlib.Core.Bool.{true, false}
-use mathlib.Core.List.{List}
 use Prim.Native.Nat.{ℕ, zero, suc}
 use native.Mathlib.Omega.{arith}
 use Rattle.laws.specs.Sorting.{sort}
-use Rattle.protocol.specs.Answers.{answerOf, done, refused, accepted}
+use Rattle.protocol.specs.Answers.{answerOf, refused, accepted}
 use Rattle.protocol.specs.Inputs.{afterwards}
 use Rattle.protocol.specs.Judging.{judged}
 use Rattle.protocol.specs.Results.{announcedVotes}

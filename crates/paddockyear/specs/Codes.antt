@@ -1,16 +1,21 @@
--- The numbers that the C faces give for answers.
+-- What the C faces are told by numbers, and the numbers that they give for answers.
 use mathlib.Core.Path.{_≡_, refl, sym, ap, _∙_}
 use mathlib.Core.List.{List, [], _∷_}
 use Prim.Native.Nat.{ℕ, zero, suc, _+_}
 use native.Mathlib.Omega.{arith}
-use Rattle.laws.specs.Tests.{choose}
+use Rattle.laws.specs.Tests.{differ, choose}
 use Rattle.laws.specs.declared.Found.{Found}
 use Rattle.laws.specs.declared.Found.the-variants.{Nothing, Fault}
+use Rattle.protocol.specs.declared.Form.{Form}
 use Rattle.protocol.specs.Answers.{Answer, done, refused, answerOf, accepted}
-use Rattle.protocol.specs.Terms.{item}
+use Rattle.protocol.specs.Terms.{item, formBy}
 use Rattle.election.specs.declared.Outcome.{Outcome}
 use Rattle.election.specs.declared.Outcome.the-variants as outcome
 use Rattle.election.specs.Holding.{outcomeAnswer}
+
+-- the first command's form, by a flag, 0 for command 01 and any other number for 0C, and the election's number
+abbrev pub formTold : ℕ → ℕ → Form
+formTold numbered election = formBy (differ numbered 0) election
 
 -- 0 where nothing is refused, else the refusal's number
 unfoldable pub codeOf : Answer → ℕ

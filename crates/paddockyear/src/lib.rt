@@ -8,7 +8,7 @@ ghost use Rattle.laws.specs.Lent.{before, after};
 ghost use Rattle.laws.specs.Tests.{differ, choose};
 ghost use Rattle.keccak.specs.Keccak.{keccakF};
 ghost use Rattle.sha3.specs.Sha3.{sha3-224, sha3-256};
-ghost use Rattle.protocol.specs.Terms.{parameters, formBy};
+ghost use Rattle.protocol.specs.Terms.{parameters};
 ghost use Rattle.protocol.specs.Tablet as tablets;
 ghost use Rattle.protocol.specs.Tablet.{tabletCommand, tabletRefusal};
 ghost use Rattle.protocol.specs.Columns.{rowServer, thirdOffsets, secondHalves, rowRefusal, pairRefusal};
@@ -21,7 +21,7 @@ ghost use Rattle.protocol.specs.Election.{choiceOf};
 ghost use Rattle.election.specs.Holding.{lent, buffers, Held};
 ghost use Rattle.protocol.specs.Results.{receiptChecked, lookedUp, announcedVotes, announcedRefusal, distinctVotes, voteCounts, tallyRefusal, inFront, drawRefusal};
 ghost use Rattle.runoff.specs.Rounds as rounds;
-ghost use Rattle.paddockyear.specs.Codes.{codeOf, valueIn, receiptCode, placeIn, outcomeCode};
+ghost use Rattle.paddockyear.specs.Codes.{formTold, codeOf, valueIn, receiptCode, placeIn, outcomeCode};
 use election::Outcome;
 use laws::Found;
 use protocol::Draw;
@@ -88,7 +88,7 @@ fn written_code(w: Written) -> u32
 
 // The first command's form: 0C with the election's number, unless `numbered` is 0.
 fn form(numbered: u32, election: u32) -> Form
-    ensures { λ r. ⌜ r ≡ formBy (differ numbered 0) election ⌝ }
+    ensures { λ r. ⌜ r ≡ formTold numbered election ⌝ }
 {
     if numbered != 0 {
         return Form::Numbered(election);
@@ -116,7 +116,7 @@ pub extern "C" fn paddockyear_tablet(
     ensures { λ r.
         let refused = tabletRefusal modulus vote x y u1 u2 u3 in
         let k = refused (length (before keys)) (length (before command)) (length (before receipt)) in
-        let posted = tabletCommand (formBy (differ numbered 0) election) modulus id vote x y u1 u2 u3 (before keys) in
+        let posted = tabletCommand (formTold numbered election) modulus id vote x y u1 u2 u3 (before keys) in
         let printed = tablets.receipt id posted in
         ⌜ (r ≡ k) × ((after command ≡ afterwards k (before command) posted) × (after receipt ≡ afterwards k (before receipt) printed)) ⌝ }
 {
@@ -206,7 +206,7 @@ pub extern "C" fn paddockyear_part_one(
     out: &mut [u8],
 ) -> u32
     ensures { λ r.
-        let p = parameters (formBy (differ numbered 0) election) modulus ballots compared in
+        let p = parameters (formTold numbered election) modulus ballots compared in
         let s = given p (before ids) (before votes) (before numbers) (before permutations) (before keys) in
         let k = partOneRefusal s (length (before out)) in
         ⌜ (r ≡ k) × (after out ≡ afterwards k (before out) (firstPart s)) ⌝ }
@@ -243,7 +243,7 @@ pub extern "C" fn paddockyear_part_two(
     out: &mut [u8],
 ) -> u32
     ensures { λ r.
-        let p = parameters (formBy (differ numbered 0) election) modulus ballots compared in
+        let p = parameters (formTold numbered election) modulus ballots compared in
         let s = given p (before ids) (before votes) (before numbers) (before permutations) (before keys) in
         let k = partTwoRefusal s (before dice) mask (length (before out)) in
         ⌜ (r ≡ k) × (after out ≡ afterwards k (before out) (secondPart s (before dice) mask)) ⌝ }
@@ -282,7 +282,7 @@ pub extern "C" fn paddockyear_part_two_drawn(
     out: &mut [u8],
 ) -> u32
     ensures { λ r.
-        let p = parameters (formBy (differ numbered 0) election) modulus ballots compared in
+        let p = parameters (formTold numbered election) modulus ballots compared in
         let s = given p (before ids) (before votes) (before numbers) (before permutations) (before keys) in
         let k = partTwoDrawnRefusal s (before dice) (length (before one)) (length (before out)) in
         let two = secondPart s (before dice) (maskFor s (before dice) (before one)) in
@@ -323,7 +323,7 @@ pub extern "C" fn paddockyear_part_three(
     out: &mut [u8],
 ) -> u32
     ensures { λ r.
-        let p = parameters (formBy (differ numbered 0) election) modulus ballots compared in
+        let p = parameters (formTold numbered election) modulus ballots compared in
         let s = given p (before ids) (before votes) (before numbers) (before permutations) (before keys) in
         let k = partThreeRefusal s (before dice) mask (before sides) (length (before out)) in
         ⌜ (r ≡ k) × (after out ≡ afterwards k (before out) (thirdPart s (before dice) mask (before sides))) ⌝ }
@@ -365,7 +365,7 @@ pub extern "C" fn paddockyear_part_three_drawn(
     out: &mut [u8],
 ) -> u32
     ensures { λ r.
-        let p = parameters (formBy (differ numbered 0) election) modulus ballots compared in
+        let p = parameters (formTold numbered election) modulus ballots compared in
         let s = given p (before ids) (before votes) (before numbers) (before permutations) (before keys) in
         let k = partThreeDrawnRefusal s (before dice) mask (length (before one)) (length (before two)) (length (before out)) in
         let three = thirdPart s (before dice) mask (sidesFor s (before dice) (before one) (before two)) in
@@ -402,7 +402,7 @@ pub extern "C" fn paddockyear_draw_mask(
     mask: &mut u32,
 ) -> u32
     ensures { λ r.
-        let k = drawRefusal (parameters (formBy (differ numbered 0) election) modulus ballots compared) (before dice) (length (before one)) in
+        let k = drawRefusal (parameters (formTold numbered election) modulus ballots compared) (before dice) (length (before one)) in
         let drawn = drawnMask compared (challenge (before dice) (before one)) in
         ⌜ (r ≡ k) × (now (mask .exit) ≡ choose k drawn (now (mask .entry))) ⌝ }
 {
@@ -459,7 +459,7 @@ pub extern "C" fn paddockyear_election(
     joined: &mut [u8],
 ) -> u32
     ensures { λ r.
-        let p = parameters (formBy (differ numbered 0) election) modulus ballots compared in
+        let p = parameters (formTold numbered election) modulus ballots compared in
         let s = given p (before ids) (before votes) (before numbers) (before permutations) (before keys) in
         let byMask = choiceOf (differ «mask_given» 0) mask in
         let bySides = choiceOf (differ «sides_given» 0) (before sides) in

@@ -5,7 +5,6 @@ use mathlib.Core.Bool.{true, false}
 use mathlib.Core.List.{List, _++_}
 use Prim.Native.Nat.{ℕ, _+_}
 use lib.ListN.{length}
-use Rattle.laws.specs.Bytes.{Below}
 use Rattle.laws.specs.Faults.{rules}
 use Rattle.laws.specs.Sorting.{sort, length-sort}
 use Rattle.laws.specs.Tables.{tabulate, tabulate-of}

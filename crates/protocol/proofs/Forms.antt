@@ -3,25 +3,25 @@
 -- with 0C is judged as document 01 judges it; and that the three records of demand 3 share the first command whole.
 use mathlib.Core.Path.{_≡_, refl, sym, ap, _∙_}
 use mathlib.Core.Logic.{_≢_, _⊎_, inl, inr}
-use mathlib.Core.Bool.{Bool, false}
+use mathlib.Core.Bool.{Bool}
 use mathlib.Core.List.{List, [], _∷_}
-use Prim.Native.Nat.{ℕ, _+_, _*_, _≤_, _<_}
+use Prim.Native.Nat.{ℕ, _+_, _*_, _<_}
 use native.Mathlib.Omega.{arith}
 use lib.ListN.{length, take}
 use Rattle.laws.specs.declared.Found.the-variants.{Fault}
 use Rattle.laws.specs.Bytes.{number}
 use Rattle.laws.specs.Tests.{is-below, is-equal, not-equal}
-use Rattle.laws.specs.Faults.{located, _then_, numberOf, nothing-fault, rule-go, rule-stop, located-at, then-stop}
+use Rattle.laws.specs.Faults.{located, numberOf, nothing-fault, rule-go, rule-stop, located-at, then-stop}
 use Rattle.protocol.specs.declared.Form.{Form}
 use Rattle.protocol.specs.declared.Form.the-variants.{Unnumbered, Numbered}
 use Rattle.protocol.specs.declared.Parameters.{Parameters}
 use Rattle.protocol.specs.declared.Due.the-variants.{First}
-use Rattle.protocol.specs.Answers.{answerOf, refused}
+use Rattle.protocol.specs.Answers.{answerOf}
 use Rattle.protocol.specs.Terms.{parameters, item}
 use Rattle.protocol.specs.Layout.{firstCode, numberWidth, firstWidth, atBallot, atEntry, atFirstDice, atLink, atSecondDice, atBallotHalf, atListHalf, atVote, atFullOpening, atEnd, recordLength, partOneLength, partTwoLength, partThreeLength}
 use Rattle.protocol.specs.Record.{formOf, parametersIn, parametersOf}
 use Rattle.protocol.specs.Rules.{inCommand, rules, fault}
-use Rattle.protocol.specs.Judging.{found, laterFaults, firstFault, judged, firstFaultIn, judgedIn}
+use Rattle.protocol.specs.Judging.{found, firstFault, judged, firstFaultIn, judgedIn}
 use Rattle.protocol.specs.Demand3.{beforeFirstDice, Triple}
 use Rattle.protocol.proofs.Alike.{parameters-alike, take-less, first-low}
 

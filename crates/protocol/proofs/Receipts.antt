@@ -12,7 +12,7 @@ use lib.ListN.{length, length-append}
 use Rattle.laws.specs.Search.{find}
 use Rattle.laws.specs.Tests.{equal, same, pick, is-equal, not-equal, equal-iff, same-iff, same-fails}
 use Rattle.laws.specs.Faults.{numberOf, _then_, rule-kept, rules, Numbered, numbered}
-use Rattle.laws.specs.Bytes.{Below, number, bytes, length-bytes, number-left, number-bytes}
+use Rattle.laws.specs.Bytes.{number, bytes, length-bytes, number-left, number-bytes}
 use Rattle.laws.specs.Chunks.{piece}
 use Rattle.laws.specs.At.{At, at-left, at-whole, at-move, at-right, at-self}
 use Rattle.laws.specs.declared.Found.{Found}

@@ -15,7 +15,7 @@ use Rattle.protocol.specs.declared.Place.the-variants.{InBallot, InEntry
 use Rattle.protocol.specs.Terms.{item, opened, commitment}
 use Rattle.protocol.specs.Tablet.{ballotCommand}
 use Rattle.protocol.specs.Layout.{lists, atEntry, atFirstDice, atSecondDice, atBallotHalf, atVote}
-use Rattle.protocol.specs.Record.{Board, Comparison, Disclosure, boardOf, comparisonOf, disclosureOf, firstCommand, entryCommand, firstDiceCommand, linkCommand, secondDiceCommand, ballotHalfCommand, listHalfCommand, voteCommand, fullCommand, partOne, partTwo, partThree, encoding, parametersOf, idOf, ballotCommitmentOf, entryCommitmentOf, linkPlace, positionOf, sideOf, ballotOpeningOf, listHalfPlace, listOpeningOf, voteOf, fullPlace, fullOpeningOf}
+use Rattle.protocol.specs.Record.{Board, Comparison, Disclosure, boardOf, comparisonOf, disclosureOf, entryCommand, firstDiceCommand, linkCommand, secondDiceCommand, ballotHalfCommand, listHalfCommand, voteCommand, fullCommand, partOne, partTwo, partThree, encoding, parametersOf, idOf, ballotCommitmentOf, entryCommitmentOf, linkPlace, positionOf, sideOf, ballotOpeningOf, listHalfPlace, listOpeningOf, voteOf, fullPlace, fullOpeningOf}
 use Rattle.protocol.specs.Stands.{Laid, Valid, Stands}
 use Rattle.protocol.specs.Results.{announcedVotes}
 use Rattle.protocol.proofs.Fitting.{Fits}

@@ -7,7 +7,7 @@ use native.Mathlib.Omega.{arith}
 use lib.ListN.{length, length-append}
 use Rattle.laws.specs.Tests.{choose}
 use Rattle.laws.specs.Faults.{rules}
-use Rattle.laws.specs.Bytes.{Below, bytes, length-bytes}
+use Rattle.laws.specs.Bytes.{bytes, length-bytes}
 use Rattle.laws.specs.Modular.{minus}
 use Rattle.laws.specs.Chunks.{piece, length-piece, chunks-same}
 use Rattle.laws.specs.At.{At, at-whole}

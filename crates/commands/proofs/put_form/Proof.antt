@@ -1,5 +1,5 @@
 -- `commands::put_form` meets its contract: the code alone, or the code and the election's number.
-use mathlib.Core.Path.{_≡_, sym, ap, _∙_}
+use mathlib.Core.Path.{sym, ap, _∙_}
 use native.Mathlib.Omega.{arith}
 use borrow.Author.Needs.{needs}
 use Rattle.laws.specs.Bytes.{length-bytes}

@@ -1,6 +1,5 @@
 -- `layout::due_form` meets its contract: the first byte tells, and where there is none the form is that of document 01.
 use mathlib.Core.Path.{sym}
-use native.Mathlib.Omega.{arith}
 use borrow.Author.Needs.{needs}
 use Rattle.protocol.proofs.Forms.{code-none, code-numbered, code-unnumbered}
 use Rattle.protocol.specs.Layout.{firstCode}

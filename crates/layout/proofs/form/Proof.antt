@@ -1,6 +1,5 @@
 -- `layout::form` meets its contract: the first byte tells.
 use mathlib.Core.Path.{sym, ap, _∙_}
-use native.Mathlib.Omega.{arith}
 use borrow.Author.Needs.{needs}
 use Rattle.protocol.specs.declared.Form.the-variants.{Numbered}
 use Rattle.protocol.proofs.Forms.{form-numbered, form-unnumbered}

@@ -1,5 +1,5 @@
 -- `layout::number_width` meets its contract: the definition, form by form.
-use mathlib.Core.Path.{_≡_, refl, sym, ap, _∙_}
+use mathlib.Core.Path.{sym, ap}
 use native.Mathlib.Omega.{arith}
 use borrow.Author.Needs.{needs}
 use Rattle.protocol.specs.Layout.{numberWidth}
