@@ -16,8 +16,8 @@ use Rattle.protocol.specs.Layout.{firstCode, numberWidth, lists, atBallo
 use Rattle.protocol.specs.Record.{parametersOf, firstDiceOf, maskOf, linkPlace, positionOf, secondDiceOf, sideOf, listHalfPlace, fullPlace, Board, Comparison, Disclosure, boardOf, comparisonOf, disclosureOf}
 use Rattle.protocol.specs.Drawing.{challenge, drawnMask, drawnSide}
 
--- rules 1, 2, 4 and 17: "The whole is 75 + 316n + 734mn bytes", or with 0C 4 bytes longer (document 02, item 4), with each command byte and each list, ballot, position and index
--- operand where it is due
+-- rules 1, 2, 4 and 17: "The whole is 75 + 316n + 734mn bytes", or by document 02, item 4, "4 bytes longer", with each command byte and
+-- each list, ballot, position and index operand where it is due
 pub record Laid (p : Parameters) (r : List ℕ) : Type 0 where
   pub long : length r ≡ 75 + numberWidth (p .form) + 316 * p .ballots + 734 * (p .compared * p .ballots)
   pub first : item r 0 ≡ firstCode (p .form)
