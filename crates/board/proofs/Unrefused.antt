@@ -4,7 +4,8 @@ use mathlib.Core.Bool.{true}
 use Prim.Native.Nat.{ℕ}
 use Rattle.laws.specs.Tests.{equal, equal-iff}
 use Rattle.protocol.specs.Layout.{partOneLength}
-use Rattle.protocol.specs.Inputs.{Slices, partOneRefusal}
+use Rattle.protocol.specs.Inputs.{Slices}
+use Rattle.protocol.specs.Refusals.{partOneRefusal}
 use Rattle.protocol.proofs.Unrefused.{unrefused}
 use Rattle.mixing.specs.Passed.{Passed}
 

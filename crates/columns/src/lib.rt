@@ -7,7 +7,7 @@ ghost use lib.ListN.{length};
 ghost use Rattle.laws.specs.Lent.{before, after};
 ghost use Rattle.protocol.specs.Columns.{rowServer, thirdOffsets, secondHalves, rowRefusal, pairRefusal};
 ghost use Rattle.protocol.specs.Answers.{writtenAnswer, answerOf};
-ghost use Rattle.protocol.specs.Inputs.{afterwards};
+ghost use Rattle.protocol.specs.Refusals.{afterwards};
 ghost use Rattle.columns.specs.Ready.{RowReady, PairReady};
 use protocol::Written;
 

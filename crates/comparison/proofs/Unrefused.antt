@@ -10,7 +10,8 @@ use Rattle.protocol.specs.Terms.{modulusInLimits, ballotsInLimits, listsInLimit
 use Rattle.protocol.specs.Layout.{partTwoLength}
 use Rattle.protocol.specs.Rules.{rightShape}
 use Rattle.protocol.specs.Drawing.{drawnMask}
-use Rattle.protocol.specs.Inputs.{Slices, partTwoRefusal, partTwoDrawnRefusal}
+use Rattle.protocol.specs.Inputs.{Slices}
+use Rattle.protocol.specs.Refusals.{partTwoRefusal, partTwoDrawnRefusal}
 use Rattle.protocol.specs.Results.{drawRefusal}
 use Rattle.protocol.proofs.Unrefused.{unrefused}
 use Rattle.protocol.proofs.Drawing.{drawn-mask}

@@ -5,7 +5,8 @@ use Prim.Native.Nat.{ℕ}
 use lib.ListN.{length}
 use Rattle.laws.specs.Faults.{rules}
 use Rattle.protocol.specs.Drawing.{drawnSides}
-use Rattle.protocol.specs.Inputs.{Slices, partThreeRefusal, partThreeDrawnRefusal}
+use Rattle.protocol.specs.Inputs.{Slices}
+use Rattle.protocol.specs.Refusals.{partThreeRefusal, partThreeDrawnRefusal}
 use Rattle.protocol.proofs.Unrefused.{unrefused}
 use Rattle.protocol.proofs.Drawing.{length-drawn, drawn-sides}
 use Rattle.disclosure.specs.Disclosed.{Drawable, Writable}

@@ -9,7 +9,8 @@ use Rattle.laws.specs.Masks.{bit, setBefore}
 use Rattle.protocol.specs.Terms.{item}
 use Rattle.protocol.specs.Layout.{lists, partThreeLength}
 use Rattle.protocol.specs.Rules.{rightShape}
-use Rattle.protocol.specs.Inputs.{Slices, inputsOf, binarySides}
+use Rattle.protocol.specs.Inputs.{Slices, inputsOf}
+use Rattle.protocol.specs.Refusals.{binarySides}
 use Rattle.protocol.specs.Servers.{linkPosition}
 use Rattle.mixing.specs.Passed.{Passed}
 

@@ -6,7 +6,7 @@ use Prim.Native.Nat.{ℕ, zero, suc}
 use native.Mathlib.Omega.{arith}
 use Rattle.laws.specs.Sorting.{sort}
 use Rattle.protocol.specs.Answers.{answerOf, refused, accepted}
-use Rattle.protocol.specs.Inputs.{afterwards}
+use Rattle.protocol.specs.Refusals.{afterwards}
 use Rattle.protocol.specs.Judging.{judged}
 use Rattle.protocol.specs.Results.{announcedVotes}
 use Rattle.protocol.specs.Election.{drawn, electionRefusal}

@@ -10,7 +10,8 @@ use Rattle.laws.specs.Writing.{Went, go-on, go-same, whole}
 use Rattle.protocol.specs.declared.Parameters.{Parameters}
 use Rattle.protocol.specs.Rules.{rightShape}
 use Rattle.protocol.specs.Drawing.{challenge, drawnMask}
-use Rattle.protocol.specs.Inputs.{Slices, binarySides}
+use Rattle.protocol.specs.Inputs.{Slices}
+use Rattle.protocol.specs.Refusals.{binarySides}
 use Rattle.protocol.specs.Servers.{firstPart, secondPart, maskFor, thirdPart, sidesFor}
 use Rattle.protocol.specs.Election.{Choice, choiceOf, maskInShape, sidesDue, sidesBinary, maskBy, sidesBy, electionMask, electionTwo, electionSides, electionThree, electionRecord}
 use Rattle.election.specs.Holding.{Lent, buffers, partsOf}

@@ -6,7 +6,8 @@ use Prim.Native.Nat.{ℕ}
 use lib.ListN.{length}
 use Rattle.laws.specs.Sorting.{sort}
 use Rattle.protocol.specs.Answers.{Answer, done, refused, answerOf, accepted}
-use Rattle.protocol.specs.Inputs.{Slices, afterwards}
+use Rattle.protocol.specs.Inputs.{Slices}
+use Rattle.protocol.specs.Refusals.{afterwards}
 use Rattle.protocol.specs.Servers.{firstPart}
 use Rattle.protocol.specs.Judging.{judged}
 use Rattle.protocol.specs.Results.{announcedVotes}

@@ -9,7 +9,7 @@ use native.Mathlib.Omega.{arith}
 use lib.Dec.{ltb}
 use borrow.Author.Tests.{ltb-true}
 use Rattle.laws.specs.Search.{last-or}
-use Rattle.laws.specs.Tests.{choose, never, equal-iff, differ-iff, below-iff, atMost-iff, and-iff, implies-iff, or-iff, every-iff, same-iff}
+use Rattle.laws.specs.Tests.{choose, never, equal-iff, differ-iff, below-iff, atMost-iff, and-iff, implies-iff, or-iff, every-iff, same-iff, unlike-iff}
 use Rattle.laws.specs.declared.Found.{Found}
 use Rattle.laws.specs.declared.Found.the-variants.{Nothing, Fault}
 
@@ -84,7 +84,7 @@ clear-nothing zero f = (λ e p. e, λ h. h refl)
 clear-nothing (suc b) f = (λ e p. absurd (omega arith), λ h. refl)
 
 -- `simp rules` turns 'nothing is found' into plain statements
-pub ruleset rules = (rule-kept, located-nothing, then-nothing, first-nothing, set-nothing, clear-nothing, equal-iff, differ-iff, below-iff, atMost-iff, and-iff, implies-iff, or-iff, every-iff, same-iff)
+pub ruleset rules = (rule-kept, located-nothing, then-nothing, first-nothing, set-nothing, clear-nothing, equal-iff, differ-iff, below-iff, atMost-iff, and-iff, implies-iff, or-iff, every-iff, same-iff, unlike-iff)
 
 -- ---- for code: the tests of a command, one after another
 

@@ -52,6 +52,10 @@ same [] (y ∷ ys) = false
 same (x ∷ xs) [] = false
 same (x ∷ xs) (y ∷ ys) = equal x y and same xs ys
 
+-- .. and are not
+unfoldable pub unlike : List ℕ → List ℕ → Bool
+unlike xs ys = not (same xs ys)
+
 -- the first where the test holds, else the second
 abbrev pub pick : {A : Type 0} → Bool → A → A → A
 pick true x y = x
@@ -256,6 +260,14 @@ every-fails f n = (λ e. fails n e, λ t. sym (every-stop f n (t .0) (t .1) (t .
 
 pub same-fails : (a b : List ℕ) → (same a b ≡ false) ↔ (a ≢ b)
 same-fails a b = fails-iff (same a b) (same-iff a b)
+
+pub unlike-iff : (a b : List ℕ) → (unlike a b ≡ true) ↔ (a ≢ b)
+unfolding unlike
+unlike-iff a b = (λ e. same-fails a b .0 (not-true (same a b) e), λ ne. ap not (same-fails a b .1 ne))
+
+pub unlike-fails : (a b : List ℕ) → (unlike a b ≡ false) ↔ (a ≡ b)
+unfolding unlike
+unlike-fails a b = (λ e. same-iff a b .0 (not-false (same a b) e), λ e. ap not (same-iff a b .1 e))
 
 -- ---- for code: what the answer r of a call says of the test that it gives
 

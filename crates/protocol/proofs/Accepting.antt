@@ -16,13 +16,13 @@ use Rattle.protocol.specs.Answers.{accepted}
 use Rattle.protocol.specs.Terms.{item}
 use Rattle.protocol.specs.Layout.{code, width, lists, atEnd, recordLength}
 use Rattle.protocol.specs.Record.{parametersOf, maskOf, positionOf, shiftOf, sideOf, boardOf, comparisonOf, disclosureOf}
-use Rattle.protocol.specs.Rules.{rules as rulesOf, placeOf, fault}
+use Rattle.protocol.specs.Rules.{ballotRules, rules as rulesOf, placeOf, fault}
 use Rattle.protocol.specs.Judging.{judged}
-use Rattle.protocol.specs.Stands.{Laid, Valid, Stands, Drawn}
+use Rattle.protocol.specs.Stands.{Laid, Valid, Original, Stands, Drawn}
 use Rattle.protocol.proofs.Lengths.{record-length}
 use Rattle.protocol.proofs.Within.{Shaped, stands-shaped, first-within, ballot-within, entry-within, first-dice-within, link-within, second-dice-within, ballot-half-within, list-half-within, vote-within, full-within, end-within}
 use Rattle.protocol.proofs.Faultless.{Faultless, accepted-iff}
-use Rattle.protocol.proofs.Tested.{fault-iff, first-tests, ballot-tests, entry-tests, first-dice-tests, link-tests, second-dice-tests, ballot-half-tests, list-half-tests, vote-tests, full-tests}
+use Rattle.protocol.proofs.Tested.{fault-with-iff, fault-iff, first-tests, ballot-tests, entry-tests, first-dice-tests, link-tests, second-dice-tests, ballot-half-tests, list-half-tests, vote-tests, full-tests}
 
 -- a bit that is not 0 is 1
 set-differs : (b : ℕ) → b ≡ 1 → b ≢ 0
@@ -43,6 +43,9 @@ last-next n h = omega arith
 module _ (drawn : Bool) (r : List ℕ) (k : Faultless drawn (parametersOf r) r) where
   kept : (d : Due) → fault (parametersOf r) r drawn d ≡ 0 → rulesOf (parametersOf r) r drawn d ≡ 0
   kept d e = fault-iff drawn (parametersOf r) r d .0 e .1 .1
+
+  ballot-kept : (j : ℕ) → j < parametersOf r .ballots → ballotRules (parametersOf r) r true j ≡ 0
+  ballot-kept j lj = fault-with-iff drawn (parametersOf r) r true (Ballot j) .0 (k .ballots j lj) .1 .1
 
   link-kept : (l j : ℕ) → l < lists (parametersOf r) → bit (maskOf (parametersOf r) r) l ≡ 1 → j < parametersOf r .ballots
       → rulesOf (parametersOf r) r drawn (Link l j) ≡ 0
@@ -73,7 +76,7 @@ module _ (drawn : Bool) (r : List ℕ) (k : Faultless drawn (parametersOf r) r) 
             let e : length r ≡ recordLength p = omega arith in
             e ∙ record-length p;
         first = fault-iff drawn p r First .0 (k .first) .0;
-        ballots = λ j lj. fault-iff drawn p r (Ballot j) .0 (k .ballots j lj) .0;
+        ballots = λ j lj. fault-with-iff drawn p r true (Ballot j) .0 (k .ballots j lj) .0;
         entries = λ l i ll li. let h = fault-iff drawn p r (Entry l i) .0 (k .entries l ll i li) in (h .0, entry-tests drawn p r l i .0 (h .1 .1));
         first-dice = fault-iff drawn p r FirstDice .0 (k .first-dice) .0;
         links = λ l j ll b lj.
@@ -108,7 +111,7 @@ module _ (drawn : Bool) (r : List ℕ) (k : Faultless drawn (parametersOf r) r) 
         ballots-high = limits .1 .0 .1;
         compared-low = limits .1 .1 .0;
         compared-high = limits .1 .1 .1;
-        ids-rise = λ j lj. ballot-tests drawn p r (suc j) .0 (kept (Ballot (suc j)) (k .ballots (suc j) lj)) j refl;
+        ids-rise = λ j lj. ballot-tests drawn p r true (suc j) .0 (ballot-kept (suc j) lj) .0 j refl;
         first-fair = dice .0;
         mask-ones = dice .1 .0 .0;
         mask-bits = bits-iff (lists p) (maskOf p r) .0 (dice .1 .0 .1);
@@ -128,6 +131,9 @@ module _ (drawn : Bool) (r : List ℕ) (k : Faultless drawn (parametersOf r) r) 
         full-opens = λ l i q ll b li. full-tests drawn p r l i .0 (full-kept l i ll b li) .1 .1 .1 .0 q;
         values = λ l ll b. full-tests drawn p r l (p .ballots - 1) .0 (full-kept l (p .ballots - 1) ll b (last (p .ballots) (limits .1 .0 .0))) .1 .1 .1 .1 (last-next (p .ballots) (limits .1 .0 .0));
       }
+
+  original : Original (boardOf r)
+  original = record { apart = λ i j s t li lj ls lt. ballot-tests drawn (parametersOf r) r true j .0 (ballot-kept j lj) .1 refl i li s ls t lt }
 
   are-drawn : drawn ≡ true → Drawn (parametersOf r) r
   are-drawn e =
@@ -214,8 +220,16 @@ module _ (drawn : Bool) (r : List ℕ) (s : Stands r) (are : drawn ≡ true → 
             faultless-at First (s .laid .first) (omega (arith, first-within shaped))
             (first-tests drawn p r .1 ((v .modulus-low, v .modulus-high), ((v .ballots-low, v .ballots-high), (v .compared-low, v .compared-high))));
         ballots = λ j lj.
-            faultless-at (Ballot j) (s .laid .ballots j lj) (ballot-within shaped j lj)
-            (ballot-tests drawn p r j .1 (λ i e. rw (← e) (v .ids-rise i (rw (← e) at lj))));
+            fault-with-iff drawn p r true (Ballot j) .1 (
+              s .laid .ballots j lj,
+              (
+                ballot-within shaped j lj,
+                ballot-tests drawn p r true j .1 (
+                  λ i e. rw (← e) (v .ids-rise i (rw (← e) at lj)),
+                  λ e i li a la b lb. s .original .apart i j a b li lj la lb,
+                ),
+              ),
+            );
         entries = λ l ll i li.
             faultless-at (Entry l i) (s .laid .entries l i ll li .0) (entry-within shaped l i ll li)
             (entry-tests drawn p r l i .1 (s .laid .entries l i ll li .1));
@@ -236,12 +250,12 @@ module _ (drawn : Bool) (r : List ℕ) (s : Stands r) (are : drawn ≡ true → 
 
 pub accepts-iff : (r : List ℕ) → (judged false r ≡ accepted) ↔ Stands r
 accepts-iff r = (
-  λ e. let k = accepted-iff false r .0 e in record { laid = laid false r k; valid = valid false r k },
+  λ e. let k = accepted-iff false r .0 e in record { laid = laid false r k; valid = valid false r k; original = original false r k },
   λ s. accepted-iff false r .1 (faultless false r s (λ e. absurd (never e refl))),
 )
 
 pub accepts-drawn-iff : (r : List ℕ) → (judged true r ≡ accepted) ↔ (Stands r × Drawn (parametersOf r) r)
 accepts-drawn-iff r = (
-  λ e. let k = accepted-iff true r .0 e in (record { laid = laid true r k; valid = valid true r k }, are-drawn true r k refl),
+  λ e. let k = accepted-iff true r .0 e in (record { laid = laid true r k; valid = valid true r k; original = original true r k }, are-drawn true r k refl),
   λ t. accepted-iff true r .1 (faultless true r (t .0) (λ e. t .1)),
 )

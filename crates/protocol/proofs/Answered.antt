@@ -6,7 +6,7 @@ use mathlib.Core.List.{List, []}
 use Prim.Native.Nat.{ℕ, zero, suc}
 use Rattle.protocol.specs.declared.Written.the-variants.{Done, Refused}
 use Rattle.protocol.specs.Answers.{Answer, done, refused, answerOf, writtenAnswer}
-use Rattle.protocol.specs.Inputs.{afterwards}
+use Rattle.protocol.specs.Refusals.{afterwards}
 
 -- where a rule is broken its number is the answer, and where none is the values are
 pub refused-is : (k refusal : ℕ) (values : List ℕ) → k ≡ refusal → k ≢ 0 → refused k ≡ answerOf refusal values

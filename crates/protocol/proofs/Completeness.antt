@@ -14,10 +14,11 @@ use Rattle.protocol.specs.Record.{parametersOf, Board, Comparison, Discl
 use Rattle.protocol.specs.Drawing.{challenge, drawnMask, drawnSide}
 use Rattle.protocol.specs.Rules.{fairDice, rightShape}
 use Rattle.protocol.specs.Judging.{judged}
-use Rattle.protocol.specs.Inputs.{Slices, inputsOf, binarySides, partOneRefusal, partTwoRefusal, partTwoDrawnRefusal, partThreeRefusal, partThreeDrawnRefusal}
+use Rattle.protocol.specs.Inputs.{Slices, inputsOf}
+use Rattle.protocol.specs.Refusals.{binarySides, partOneRefusal, partTwoRefusal, partTwoDrawnRefusal, partThreeRefusal, partThreeDrawnRefusal}
 use Rattle.protocol.specs.Servers.{announced, postedBoard, postedComparison, postedDisclosure, firstPart, secondPart, maskFor, thirdPart, sidesFor}
 use Rattle.protocol.specs.Results.{announcedVotes}
-use Rattle.protocol.specs.Stands.{Stands, Drawn}
+use Rattle.protocol.specs.Stands.{Original, Stands, Drawn}
 use Rattle.protocol.specs.Election.{Choice, chosen, drawn, maskBy, sidesBy, secondRefusal, thirdRefusal, electionMask, electionTwo, electionSides, electionThree, electionRecord, electionRefusal}
 use Rattle.protocol.proofs.Fitting.{Fits}
 use Rattle.protocol.proofs.Goodness.{FourBytes, Good}
@@ -64,16 +65,16 @@ module _ (s : Slices) (g : Good (inputsOf s)) (dice₁ : List ℕ) (mask : ℕ) 
   unfolding board comparison disclosure
   fits = honest-fits (inputsOf s) g choice
 
-  written-stands : Stands (written s dice₁ mask dice₂ sides)
+  written-stands : Original (postedBoard (inputsOf s)) → Stands (written s dice₁ mask dice₂ sides)
   unfolding board comparison disclosure
-  written-stands = rw is-encoding (stands board comparison disclosure fits (honest-valid (inputsOf s) g choice))
+  written-stands o = rw is-encoding (stands board comparison disclosure fits (honest-valid (inputsOf s) g choice) o)
 
   written-parameters : parametersOf (written s dice₁ mask dice₂ sides) ≡ s .parameters
   unfolding board postedBoard inputsOf
   written-parameters = ap parametersOf is-encoding ∙ read-parameters board comparison disclosure fits
 
-  pub written-accepted : judged false (written s dice₁ mask dice₂ sides) ≡ accepted
-  written-accepted = accepts-iff (written s dice₁ mask dice₂ sides) .1 written-stands
+  pub written-accepted : Original (postedBoard (inputsOf s)) → judged false (written s dice₁ mask dice₂ sides) ≡ accepted
+  written-accepted o = accepts-iff (written s dice₁ mask dice₂ sides) .1 (written-stands o)
 
   sorted-whole : (l : List ℕ) (n : ℕ) → length l ≡ n → tabulate (item l) n ≡ l
   sorted-whole l n e = sym (tabulate-of l (item l) n e (λ j h. refl))
@@ -100,9 +101,9 @@ module _ (s : Slices) (g : Good (inputsOf s)) (dice₁ : List ℕ) (mask : ℕ) 
         ∙ ap₂ (λ (d l : List ℕ). drawnSide (challenge d l) j) (sym (read-second-dice board comparison disclosure fits)) (sym (before-second-dice board comparison disclosure fits));
   }
 
-  written-drawn : mask ≡ maskFor s dice₁ (firstPart s) → sides ≡ sidesFor s dice₂ (firstPart s) (secondPart s dice₁ mask)
+  written-drawn : Original (postedBoard (inputsOf s)) → mask ≡ maskFor s dice₁ (firstPart s) → sides ≡ sidesFor s dice₂ (firstPart s) (secondPart s dice₁ mask)
       → judged true (written s dice₁ mask dice₂ sides) ≡ accepted
-  written-drawn em es = accepts-drawn-iff (written s dice₁ mask dice₂ sides) .1 (written-stands, rw is-encoding (rw (read-parameters board comparison disclosure fits) (are-drawn em es)))
+  written-drawn o em es = accepts-drawn-iff (written s dice₁ mask dice₂ sides) .1 (written-stands o, rw is-encoding (rw (read-parameters board comparison disclosure fits) (are-drawn em es)))
 
 -- ---- the three calls
 
@@ -161,11 +162,15 @@ module _ (s : Slices) where
     unfolding partOneRefusal
     good = good-inputs s (unrefused s _ _ _ _ (h .one .1)) fit
 
+    original : Original (postedBoard (inputsOf s))
+    unfolding partOneRefusal
+    original = unrefused s _ _ _ _ (h .one .1) .original
+
     -- the record is accepted, and announces the votes cast, smallest first
     pub complete : (judged false (electionRecord s byMask dice₁ bySides dice₂) ≡ accepted) × (announcedVotes (electionRecord s byMask dice₁ bySides dice₂) ≡ sort (s .votes))
     unfolding electionRecord electionTwo electionThree written
     complete = (
-      written-accepted s good dice₁ (electionMask s byMask dice₁) dice₂ (electionSides s byMask dice₁ bySides dice₂) taken,
+      written-accepted s good dice₁ (electionMask s byMask dice₁) dice₂ (electionSides s byMask dice₁ bySides dice₂) taken original,
       written-announces s good dice₁ (electionMask s byMask dice₁) dice₂ (electionSides s byMask dice₁ bySides dice₂) taken votes-long,
     )
 
@@ -178,4 +183,4 @@ module _ (s : Slices) where
   pub complete-drawn : (dice₁ dice₂ : List ℕ) → FourBytes s → Unrefusing s drawn dice₁ drawn dice₂ → judged true (electionRecord s drawn dice₁ drawn dice₂) ≡ accepted
   unfolding electionRecord electionTwo electionThree electionSides electionMask maskBy sidesBy written
   complete-drawn dice₁ dice₂ fit h =
-      written-drawn s (good drawn dice₁ drawn dice₂ fit h) dice₁ (electionMask s drawn dice₁) dice₂ (electionSides s drawn dice₁ drawn dice₂) (taken drawn dice₁ drawn dice₂ fit h) refl refl
+      written-drawn s (good drawn dice₁ drawn dice₂ fit h) dice₁ (electionMask s drawn dice₁) dice₂ (electionSides s drawn dice₁ drawn dice₂) (taken drawn dice₁ drawn dice₂ fit h) (original drawn dice₁ drawn dice₂ fit h) refl refl

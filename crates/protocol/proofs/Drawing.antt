@@ -15,7 +15,8 @@ use Rattle.laws.specs.Tables.{length-tabulate, get-tabulate}
 use Rattle.protocol.specs.Terms.{item}
 use Rattle.protocol.specs.Drawing.{listHash, drawFrom, drawnMask, drawnSide, drawnSides}
 use Rattle.protocol.specs.Rules.{rightShape}
-use Rattle.protocol.specs.Inputs.{Slices, binarySides}
+use Rattle.protocol.specs.Inputs.{Slices}
+use Rattle.protocol.specs.Refusals.{binarySides}
 use Rattle.protocol.proofs.Unrefused.{shape-iff, binary-iff}
 
 -- a lowest bit, put before a mask

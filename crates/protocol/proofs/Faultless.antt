@@ -1,7 +1,7 @@
 -- A record is accepted exactly if no command of it has a fault.
 use mathlib.Core.Path.{_≡_, refl, ap}
 use mathlib.Core.Logic.{_↔_, _≢_}
-use mathlib.Core.Bool.{Bool}
+use mathlib.Core.Bool.{Bool, true}
 use mathlib.Core.List.{List, []}
 use Prim.Native.Nat.{ℕ, zero, suc, _≤_, _<_}
 use native.Mathlib.Omega.{arith}
@@ -14,13 +14,13 @@ use Rattle.protocol.specs.declared.Due.the-variants.{First, Ballot, Entr
 use Rattle.protocol.specs.Answers.{answerOf, accepted}
 use Rattle.protocol.specs.Layout.{lists, recordLength}
 use Rattle.protocol.specs.Record.{parametersOf, maskOf}
-use Rattle.protocol.specs.Rules.{fault}
-use Rattle.protocol.specs.Judging.{found, ifCompared, ifOpened, ballotFaults, entryFaults, linkFaults, listHalfFaults, halfFaults, voteFaults, fullFaults, trailingFault, partOneFaults, partTwoFaults, partThreeFaults, firstFault, judged}
+use Rattle.protocol.specs.Rules.{faultWith, fault}
+use Rattle.protocol.specs.Judging.{found, foundWith, ifCompared, ifOpened, judgedBallots, entryFaults, linkFaults, listHalfFaults, halfFaults, voteFaults, fullFaults, trailingFault, partOneFaults, partTwoFaults, partThreeFaults, firstFault, judged}
 
 -- no command has a fault, and no byte follows the last
 pub record Faultless (drawn : Bool) (p : Parameters) (r : List ℕ) : Type 0 where
   pub first : fault p r drawn First ≡ 0
-  pub ballots : (j : ℕ) → j < p .ballots → fault p r drawn (Ballot j) ≡ 0
+  pub ballots : (j : ℕ) → j < p .ballots → faultWith p r true drawn (Ballot j) ≡ 0
   pub entries : (l : ℕ) → l < lists p → (i : ℕ) → i < p .ballots → fault p r drawn (Entry l i) ≡ 0
   pub first-dice : fault p r drawn FirstDice ≡ 0
   pub links : (l : ℕ) → l < lists p → bit (maskOf p r) l ≢ 0 → (j : ℕ) → j < p .ballots → fault p r drawn (Link l j) ≡ 0
@@ -33,7 +33,7 @@ pub record Faultless (drawn : Bool) (p : Parameters) (r : List ℕ) : Type 0 whe
 
 module _ (drawn : Bool) (r : List ℕ) where
   pub faultless-iff : (firstFault drawn r ≡ Nothing) ↔ Faultless drawn (parametersOf r) r
-  unfolding firstFault partOneFaults partTwoFaults partThreeFaults ballotFaults entryFaults linkFaults listHalfFaults halfFaults voteFaults fullFaults trailingFault ifCompared ifOpened found
+  unfolding firstFault partOneFaults partTwoFaults partThreeFaults judgedBallots entryFaults linkFaults listHalfFaults halfFaults voteFaults fullFaults trailingFault ifCompared ifOpened foundWith
   faultless-iff = (
     λ e. let h = simp rules at e in record {
       first = h .0;
@@ -55,7 +55,7 @@ module _ (drawn : Bool) (r : List ℕ) where
   )
 
   fault-numbered : Numbered (firstFault drawn r)
-  unfolding firstFault partOneFaults partTwoFaults partThreeFaults ballotFaults entryFaults linkFaults listHalfFaults halfFaults voteFaults fullFaults trailingFault ifCompared ifOpened found
+  unfolding firstFault partOneFaults partTwoFaults partThreeFaults judgedBallots entryFaults linkFaults listHalfFaults halfFaults voteFaults fullFaults trailingFault ifCompared ifOpened foundWith
   fault-numbered = search numbered depth 12
 
   none-broken : (k : ℕ) → (answerOf k [] ≡ accepted) ↔ (k ≡ 0)

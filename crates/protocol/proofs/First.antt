@@ -12,10 +12,11 @@ use Rattle.laws.specs.Tests.{choose, equal, atMost, never, equal-iff, unequal-i
 use Rattle.laws.specs.Faults.{rule, kept, located, _then_, first, numberOf, nothing-fault, rule-kept, located-nothing, located-at, then-nothing, then-go, then-stop, rule-stop}
 use Rattle.protocol.specs.declared.Parameters.{Parameters}
 use Rattle.protocol.specs.declared.Due.{Due}
+use Rattle.protocol.specs.declared.Due.the-variants.{First, Entry, FirstDice, Link, SecondDice, BallotHalf, ListHalf, Vote, FullOpening, End}
 use Rattle.protocol.specs.Layout.{recordLength}
 use Rattle.protocol.specs.Record.{parametersOf}
-use Rattle.protocol.specs.Rules.{placeOf, fault}
-use Rattle.protocol.specs.Judging.{ifCompared, ifOpened, trailingFault, found, ballotFaults, entryFaults, linkFaults, listHalfFaults, halfFaults, voteFaults, fullFaults, partOneFaults, partTwoFaults, partThreeFaults, firstFault, judged}
+use Rattle.protocol.specs.Rules.{placeOf, fault, faultWith}
+use Rattle.protocol.specs.Judging.{ifCompared, ifOpened, trailingFault, found, foundWith, ballotFaults, judgedBallots, entryFaults, linkFaults, listHalfFaults, halfFaults, voteFaults, fullFaults, partOneFaults, partTwoFaults, partThreeFaults, firstFault, judged}
 use Rattle.protocol.specs.Broken.{Test, noneLeft, notDue, cutShort, numbered, testNumber, testRank}
 use Rattle.protocol.specs.Answers.{done, refused, answerOf, accepted}
 use Rattle.protocol.specs.Results.{receiptRefusal}
@@ -50,26 +51,26 @@ unfolding located
 located-fault place zero e = absurd (nothing-fault refl e)
 located-fault place (suc v) {k} {a} e = let p : k ≡ suc v = cc in let q : a ≡ place = cc in (λ z. omega arith, p, q)
 
-module _ (drawn : Bool) (r : List ℕ) (d : Due) where
-  found-nothing : (found drawn (parametersOf r) r d ≡ Nothing) ↔ Unbroken drawn r d
-  unfolding found
+module _ (copies drawn : Bool) (r : List ℕ) (d : Due) where
+  found-nothing : (foundWith drawn (parametersOf r) r copies d ≡ Nothing) ↔ Unbroken copies drawn r d
+  unfolding foundWith
   found-nothing =
-      let c = firsts-none testNumber testRank (fault-firsts drawn (parametersOf r) r d) in
+      let c = firsts-none testNumber testRank (fault-firsts copies drawn (parametersOf r) r d) in
       (λ e. c .0 (located-nothing _ _ .0 e), λ h. located-nothing _ _ .1 (c .1 h))
 
-  found-first : {k place : ℕ} → found drawn (parametersOf r) r d ≡ Fault k place
-      → (t : Test) × FirstTest drawn r d t × (k ≡ testNumber t) × (place ≡ placeOf (parametersOf r) r d)
-  unfolding found
+  found-first : {k place : ℕ} → foundWith drawn (parametersOf r) r copies d ≡ Fault k place
+      → (t : Test) × FirstTest copies drawn r d t × (k ≡ testNumber t) × (place ≡ placeOf (parametersOf r) r d)
+  unfolding foundWith
   found-first e =
       let l = located-fault _ _ e in
-      let w = fault-firsts drawn (parametersOf r) r d .some (l .0) in
+      let w = fault-firsts copies drawn (parametersOf r) r d .some (l .0) in
       (w .0, record { breaks = w .2; none-before = w .3 }, l .1 ∙ sym (w .1), l .2)
 
-  first-found : (t : Test) → FirstTest drawn r d t → found drawn (parametersOf r) r d ≡ Fault (testNumber t) (placeOf (parametersOf r) r d)
-  unfolding found
+  first-found : (t : Test) → FirstTest copies drawn r d t → foundWith drawn (parametersOf r) r copies d ≡ Fault (testNumber t) (placeOf (parametersOf r) r d)
+  unfolding foundWith
   first-found t h =
-      let c = fault-firsts drawn (parametersOf r) r d in
-      let e : fault (parametersOf r) r drawn d ≡ testNumber t = firsts-some testNumber testRank alike c t (h .breaks) (h .none-before) in
+      let c = fault-firsts copies drawn (parametersOf r) r d in
+      let e : faultWith (parametersOf r) r copies drawn d ≡ testNumber t = firsts-some testNumber testRank alike c t (h .breaks) (h .none-before) in
       sym (located-at _ _ (λ z. c .none z t (h .breaks))) ∙ ap (λ k. Fault k (placeOf (parametersOf r) r d)) e
 
 -- ---- the commands in their order
@@ -150,8 +151,8 @@ module _ (f : Due → Found) where
 
 -- the judge's walk is the walk over the commands in their order, and then rule 17
 pub in-order : (drawn : Bool) (r : List ℕ)
-    → firstFault drawn r ≡ firstOf (found drawn (parametersOf r) r) (commandsOf r) then trailingFault (parametersOf r) r
-unfolding firstFault partOneFaults partTwoFaults partThreeFaults ballotFaults entryFaults linkFaults listHalfFaults halfFaults voteFaults fullFaults ifCompared ifOpened commands ofCompared ofUncompared
+    → firstFault drawn r ≡ firstOf (foundWith drawn (parametersOf r) r true) (commandsOf r) then trailingFault (parametersOf r) r
+unfolding firstFault partOneFaults partTwoFaults partThreeFaults judgedBallots entryFaults linkFaults listHalfFaults halfFaults voteFaults fullFaults ifCompared ifOpened commands ofCompared ofUncompared foundWith faultWith
 in-order drawn r = simp (of-append, of-joined, of-choose, of-one, of-more, of-none, then-assoc)
 
 -- ---- numbers and answers
@@ -185,25 +186,25 @@ every-map : {P Q : Due → Type 0} (ds : List Due) → ((d : Due) → P d → Q 
 every-map [] f h = tt
 every-map (d ∷ ds) f h = (f d (h .0), every-map ds f (h .1))
 
-module _ (drawn : Bool) (r : List ℕ) (row : List Due) where
-  row-nothing : (firstOf (found drawn (parametersOf r) r) row ≡ Nothing) ↔ Every (Unbroken drawn r) row
+module _ (copies drawn : Bool) (r : List ℕ) (row : List Due) where
+  row-nothing : (firstOf (foundWith drawn (parametersOf r) r copies) row ≡ Nothing) ↔ Every (Unbroken copies drawn r) row
   row-nothing = (
-    λ e. every-map row (λ d. found-nothing drawn r d .0) (of-nothing _ row .0 e),
-    λ h. of-nothing _ row .1 (every-map row (λ d. found-nothing drawn r d .1) h),
+    λ e. every-map row (λ d. found-nothing copies drawn r d .0) (of-nothing _ row .0 e),
+    λ h. of-nothing _ row .1 (every-map row (λ d. found-nothing copies drawn r d .1) h),
   )
 
-  row-first : (k place : ℕ) → (firstOf (found drawn (parametersOf r) r) row ≡ Fault k place) ↔ FirstIn drawn r row k place
+  row-first : (k place : ℕ) → (firstOf (foundWith drawn (parametersOf r) r copies) row ≡ Fault k place) ↔ FirstIn copies drawn r row k place
   unfolding Split
   row-first k place = (
     λ e. let s = of-split _ row k place e in
-        let t = found-first drawn r (s .1) (s .5) in
+        let t = found-first copies drawn r (s .1) (s .5) in
         record {
           before = s .0;
           faulty = s .1;
           after = s .2;
           test = t .0;
           order = s .3;
-          unbroken = every-map (s .0) (λ d. found-nothing drawn r d .0) (s .4);
+          unbroken = every-map (s .0) (λ d. found-nothing copies drawn r d .0) (s .4);
           first = t .1;
           number-is = t .2;
           place-is = t .3;
@@ -211,25 +212,25 @@ module _ (drawn : Bool) (r : List ℕ) (row : List Due) where
     back,
   )
     where
-      back : FirstIn drawn r row k place → firstOf (found drawn (parametersOf r) r) row ≡ Fault k place
+      back : FirstIn copies drawn r row k place → firstOf (foundWith drawn (parametersOf r) r copies) row ≡ Fault k place
       back h =
-          let e : found drawn (parametersOf r) r (h .faulty) ≡ Fault k place = first-found drawn r (h .faulty) (h .test) (h .first) ∙ sym (ap₂ Fault (h .number-is) (h .place-is)) in
-          ap (firstOf (found drawn (parametersOf r) r)) (h .order)
-          ∙ of-found _ (h .before) (h .faulty) (h .after) (every-map (h .before) (λ c. found-nothing drawn r c .1) (h .unbroken)) (λ z. nothing-fault z e)
+          let e : foundWith drawn (parametersOf r) r copies (h .faulty) ≡ Fault k place = first-found copies drawn r (h .faulty) (h .test) (h .first) ∙ sym (ap₂ Fault (h .number-is) (h .place-is)) in
+          ap (firstOf (foundWith drawn (parametersOf r) r copies)) (h .order)
+          ∙ of-found _ (h .before) (h .faulty) (h .after) (every-map (h .before) (λ c. found-nothing copies drawn r c .1) (h .unbroken)) (λ z. nothing-fault z e)
           ∙ e
 
   -- no rule has number 0
-  row-number : {k place : ℕ} → FirstIn drawn r row k place → k ≢ 0
+  row-number : {k place : ℕ} → FirstIn copies drawn r row k place → k ≢ 0
   row-number h z =
-      let c = fault-firsts drawn (parametersOf r) r (h .faulty) in
+      let c = fault-firsts copies drawn (parametersOf r) r (h .faulty) in
       let e = firsts-some testNumber testRank alike c (h .test) (h .first .breaks) (h .first .none-before) in
       c .none (e ∙ sym (h .number-is) ∙ z) (h .test) (h .first .breaks)
 
-  row-zero : numberOf (firstOf (found drawn (parametersOf r) r) row) ≡ 0 → firstOf (found drawn (parametersOf r) r) row ≡ Nothing
-  row-zero = go (firstOf (found drawn (parametersOf r) r) row) refl
+  row-zero : numberOf (firstOf (foundWith drawn (parametersOf r) r copies) row) ≡ 0 → firstOf (foundWith drawn (parametersOf r) r copies) row ≡ Nothing
+  row-zero = go (firstOf (foundWith drawn (parametersOf r) r copies) row) refl
     where
-      go : (x : Found) → firstOf (found drawn (parametersOf r) r) row ≡ x → numberOf (firstOf (found drawn (parametersOf r) r) row) ≡ 0
-          → firstOf (found drawn (parametersOf r) r) row ≡ Nothing
+      go : (x : Found) → firstOf (foundWith drawn (parametersOf r) r copies) row ≡ x → numberOf (firstOf (foundWith drawn (parametersOf r) r copies) row) ≡ 0
+          → firstOf (foundWith drawn (parametersOf r) r copies) row ≡ Nothing
       go Nothing e z = e
       go (Fault k place) e z = absurd (row-number (row-first k place .0 e) (sym (number-of e) ∙ z))
 
@@ -264,13 +265,13 @@ module _ (p : Parameters) (r : List ℕ) where
 
 module _ (drawn : Bool) (r : List ℕ) where
   walk : Found
-  walk = firstOf (found drawn (parametersOf r) r) (commandsOf r)
+  walk = firstOf (foundWith drawn (parametersOf r) r true) (commandsOf r)
 
   -- nothing is found exactly if no command breaks a test, and no byte follows
-  pub nothing-broken : (firstFault drawn r ≡ Nothing) ↔ (Every (Unbroken drawn r) (commandsOf r) × (length r ≤ recordLength (parametersOf r)))
+  pub nothing-broken : (firstFault drawn r ≡ Nothing) ↔ (Every (Unbroken true drawn r) (commandsOf r) × (length r ≤ recordLength (parametersOf r)))
   nothing-broken = (
-    λ e. let t = then-nothing _ _ .0 (sym (in-order drawn r) ∙ e) in (row-nothing drawn r _ .0 (t .0), trailing-nothing _ _ .0 (t .1)),
-    λ h. in-order drawn r ∙ then-nothing _ _ .1 (row-nothing drawn r _ .1 (h .0), trailing-nothing _ _ .1 (h .1)),
+    λ e. let t = then-nothing _ _ .0 (sym (in-order drawn r) ∙ e) in (row-nothing true drawn r _ .0 (t .0), trailing-nothing _ _ .0 (t .1)),
+    λ h. in-order drawn r ∙ then-nothing _ _ .1 (row-nothing true drawn r _ .1 (h .0), trailing-nothing _ _ .1 (h .1)),
   )
 
   -- a fault is found exactly if it is the first
@@ -281,15 +282,15 @@ module _ (drawn : Bool) (r : List ℕ) where
       from : (x : Found) → walk ≡ x → walk then trailingFault (parametersOf r) r ≡ Fault k place → FirstBroken drawn r k place
       from Nothing w e =
           let t = trailing-fault (parametersOf r) r (sym (then-go walk _ w) ∙ e) in
-          trailing (row-nothing drawn r _ .0 w) (t .0) (t .1) (t .2)
-      from (Fault n a) w e = command (row-first drawn r _ k place .0 (sym (then-stop walk _ (λ z. nothing-fault z w)) ∙ e))
+          trailing (row-nothing true drawn r _ .0 w) (t .0) (t .1) (t .2)
+      from (Fault n a) w e = command (row-first true drawn r _ k place .0 (sym (then-stop walk _ (λ z. nothing-fault z w)) ∙ e))
 
       back : FirstBroken drawn r k place → firstFault drawn r ≡ Fault k place
       back (command h) =
-          let w : walk ≡ Fault k place = row-first drawn r _ k place .1 h in
+          let w : walk ≡ Fault k place = row-first true drawn r _ k place .1 h in
           in-order drawn r ∙ then-stop walk _ (λ z. nothing-fault z w) ∙ w
       back (trailing unbroken l e a) =
-          in-order drawn r ∙ then-go walk _ (row-nothing drawn r _ .1 unbroken) ∙ fault-trailing (parametersOf r) r l ∙ sym (ap₂ Fault e a)
+          in-order drawn r ∙ then-go walk _ (row-nothing true drawn r _ .1 unbroken) ∙ fault-trailing (parametersOf r) r l ∙ sym (ap₂ Fault e a)
 
   -- it is one number and one place
   pub first-determined : {k place k′ place′ : ℕ} → FirstBroken drawn r k place → FirstBroken drawn r k′ place′ → (k ≡ k′) × (place ≡ place′)
@@ -298,7 +299,7 @@ module _ (drawn : Bool) (r : List ℕ) where
       (cc, cc)
 
   broken-number : {k place : ℕ} → FirstBroken drawn r k place → k ≢ 0
-  broken-number (command h) = row-number drawn r _ h
+  broken-number (command h) = row-number true drawn r _ h
   broken-number (trailing unbroken l e a) = λ z. omega arith
 
   fault-number : numberOf (firstFault drawn r) ≡ 0 → firstFault drawn r ≡ Nothing
@@ -311,7 +312,7 @@ module _ (drawn : Bool) (r : List ℕ) where
   -- ---- the verdict
 
   -- the record is accepted exactly if no command breaks a test, and no byte follows
-  pub judged-accepted : (judged drawn r ≡ accepted) ↔ (Every (Unbroken drawn r) (commandsOf r) × (length r ≤ recordLength (parametersOf r)))
+  pub judged-accepted : (judged drawn r ≡ accepted) ↔ (Every (Unbroken true drawn r) (commandsOf r) × (length r ≤ recordLength (parametersOf r)))
   unfolding judged
   judged-accepted = (
     λ e. nothing-broken .0 (fault-number (answer-done _ _ .0 e)),
@@ -341,11 +342,11 @@ module _ (r printed : List ℕ) where
   unfolding receiptRefusal ballotFaults receiptCommands walked
   receipt-order = simp (of-append, of-joined, of-one)
 
-  pub receipt-unbroken : (receiptRefusal r printed ≡ 0) ↔ ((length printed ≡ 32) × Every (Unbroken false r) (receiptCommands (parametersOf r)))
+  pub receipt-unbroken : (receiptRefusal r printed ≡ 0) ↔ ((length printed ≡ 32) × Every (Unbroken false false r) (receiptCommands (parametersOf r)))
   unfolding walked
   receipt-unbroken = (
-    λ e. let t = rule-kept 18 _ _ refl .0 (sym receipt-order ∙ e) in (equal-iff _ _ .0 (t .0), row-nothing false r _ .0 (row-zero false r _ (t .1))),
-    λ h. receipt-order ∙ rule-kept 18 _ _ refl .1 (equal-iff _ _ .1 (h .0), number-nothing (row-nothing false r _ .1 (h .1))),
+    λ e. let t = rule-kept 18 _ _ refl .0 (sym receipt-order ∙ e) in (equal-iff _ _ .0 (t .0), row-nothing false false r _ .0 (row-zero false false r _ (t .1))),
+    λ h. receipt-order ∙ rule-kept 18 _ _ refl .1 (equal-iff _ _ .1 (h .0), number-nothing (row-nothing false false r _ .1 (h .1))),
   )
 
   pub receipt-first : (k : ℕ) → k ≢ 0 → (receiptRefusal r printed ≡ k) ↔ ReceiptBroken r printed k
@@ -356,8 +357,8 @@ module _ (r printed : List ℕ) where
       from (inl h) = other-length (unequal-iff _ _ .0 (h .0)) (h .1)
       from (inr h) =
           let f = number-found walked k ne .0 (h .1) in
-          as-judge (equal-iff _ _ .0 (h .0)) (f .0) (row-first false r _ k (f .0) .0 (f .1))
+          as-judge (equal-iff _ _ .0 (h .0)) (f .0) (row-first false false r _ k (f .0) .0 (f .1))
 
       back : ReceiptBroken r printed k → ((equal (length printed) 32 ≡ false) × (k ≡ 18)) ⊎ ((equal (length printed) 32 ≡ true) × (numberOf walked ≡ k))
       back (other-length h e) = inl (unequal-iff _ _ .1 h, e)
-      back (as-judge l place h) = inr (equal-iff _ _ .1 l, number-of (row-first false r _ k place .1 h))
+      back (as-judge l place h) = inr (equal-iff _ _ .1 l, number-of (row-first false false r _ k place .1 h))

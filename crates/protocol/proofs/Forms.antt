@@ -20,8 +20,8 @@ use Rattle.protocol.specs.Answers.{answerOf}
 use Rattle.protocol.specs.Terms.{parameters, item}
 use Rattle.protocol.specs.Layout.{firstCode, numberWidth, firstWidth, atBallot, atEntry, atFirstDice, atLink, atSecondDice, atBallotHalf, atListHalf, atVote, atFullOpening, atEnd, recordLength, partOneLength, partTwoLength, partThreeLength}
 use Rattle.protocol.specs.Record.{formOf, parametersIn, parametersOf}
-use Rattle.protocol.specs.Rules.{inCommand, rules, fault}
-use Rattle.protocol.specs.Judging.{found, firstFault, judged, firstFaultIn, judgedIn}
+use Rattle.protocol.specs.Rules.{inCommand, rules, fault, faultWith}
+use Rattle.protocol.specs.Judging.{found, foundWith, firstFault, judged, firstFaultIn, judgedIn}
 use Rattle.protocol.specs.Demand3.{beforeFirstDice, Triple}
 use Rattle.protocol.proofs.Alike.{parameters-alike, take-less, first-low}
 
@@ -153,7 +153,7 @@ module _ (drawn : Bool) (r : List ℕ) where
 
   -- and what begins with 0C was no record: 2, at the first byte
   pub numbered-before : 0 < length r → item r 0 ≡ 0x0C → firstFaultIn Unnumbered drawn r ≡ Fault 2 0
-  unfolding firstFaultIn found fault firstCode
+  unfolding firstFaultIn foundWith faultWith firstCode
   numbered-before some e =
       let p = parametersIn Unnumbered r in
       let other : item r 0 ≢ 0x01 = λ z. omega (arith, e, z) in

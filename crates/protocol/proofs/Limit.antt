@@ -17,8 +17,8 @@ use Rattle.protocol.specs.Answers.{answerOf, accepted, refused}
 use Rattle.protocol.specs.Terms.{item, mostBallots, modulusInLimits, listsInLimits, inLimitsUpTo, inLimits}
 use Rattle.protocol.specs.Layout.{firstCode, numberWidth, firstWidth, recordLength}
 use Rattle.protocol.specs.Record.{parametersOf}
-use Rattle.protocol.specs.Rules.{firstRules, firstRulesUpTo, inCommand, fault}
-use Rattle.protocol.specs.Judging.{found, laterFaults, firstFault, judged, firstCommandUpTo, firstFaultUpTo, judgedUpTo}
+use Rattle.protocol.specs.Rules.{firstRules, firstRulesUpTo, inCommand, fault, faultWith}
+use Rattle.protocol.specs.Judging.{found, foundWith, laterFaults, firstFault, judged, firstCommandUpTo, firstFaultUpTo, judgedUpTo}
 use Rattle.protocol.specs.Stands.{Stands}
 use Rattle.protocol.proofs.Lengths.{record-length}
 use Rattle.protocol.proofs.Accepting.{accepts-iff, accepts-drawn-iff}
@@ -26,7 +26,7 @@ use Rattle.protocol.proofs.Accepting.{accepts-iff, accepts-drawn-iff}
 -- ---- the judge is the one with the limit that there is
 
 pub first-command-is : (drawn : Bool) (r : List ℕ) → found drawn (parametersOf r) r First ≡ firstCommandUpTo mostBallots r
-unfolding found fault firstRules firstCommandUpTo
+unfolding foundWith faultWith firstRules firstCommandUpTo
 first-command-is drawn r = refl
 
 pub first-fault-is : (drawn : Bool) (r : List ℕ) → firstFault drawn r ≡ firstFaultUpTo mostBallots drawn r

@@ -15,7 +15,7 @@ use Rattle.laws.specs.declared.Found.the-variants.{Nothing, Fault}
 use Rattle.laws.specs.Search.{last-or}
 use Rattle.laws.specs.Bytes.{number, number-same}
 use Rattle.laws.specs.Chunks.{piece, piece-same}
-use Rattle.laws.specs.Tests.{equal, below, atMost, every, pick, never, not-equal, below-iff, below-fails, atMost-iff, every-iff}
+use Rattle.laws.specs.Tests.{equal, below, atMost, every, pick, never, not-equal, below-iff, below-fails, atMost-iff, every-iff, _implies_}
 use Rattle.laws.specs.Faults.{first, _then_, located, numberOf, rule, first-prefix}
 use Rattle.protocol.specs.declared.Parameters.{Parameters}
 use Rattle.protocol.specs.declared.Due.the-variants.{First, Ballot}
@@ -23,8 +23,8 @@ use Rattle.protocol.specs.Answers.{answerOf}
 use Rattle.protocol.specs.Terms.{item}
 use Rattle.protocol.specs.Layout.{firstWidth, atBallot}
 use Rattle.protocol.specs.Record.{parametersOf, idOf}
-use Rattle.protocol.specs.Rules.{firstRules, ballotRules, fault}
-use Rattle.protocol.specs.Judging.{found, ballotFaults}
+use Rattle.protocol.specs.Rules.{firstRules, ballotRules, fault, faultWith}
+use Rattle.protocol.specs.Judging.{found, foundWith, ballotFaults}
 use Rattle.protocol.specs.Results.{receiptAt, receiptAmong, receiptRefusal, receiptChecked, ballotsRead, lookupRefusal, lookedUp}
 use Rattle.protocol.proofs.Alike.{parameters-within}
 use Rattle.protocol.proofs.Tested.{fault-iff}
@@ -183,7 +183,7 @@ module _ (r s printed : List ℕ) (h : Alike r s printed) where
       go (stop j l f g e) = reads-to q s printed (q .ballots) j l (λ i m. omega (arith, id-alike i (omega arith), f i m)) (omega (arith, id-alike j (omega arith))) ∙ sym e
 
   first-fault-alike : fault q s false First ≡ fault q r false First
-  unfolding fault firstRules atBallot
+  unfolding faultWith firstRules atBallot
   first-fault-alike =
       let a : below 0 (length s) ≡ below 0 (length r) = below-iff 0 (length s) .1 (omega (arith, h .long′)) ∙ sym (below-iff 0 (length r) .1 (omega (arith, h .long))) in
       let w : ℕ = 0 + firstWidth q in
@@ -192,7 +192,7 @@ module _ (r s printed : List ℕ) (h : Alike r s printed) where
       rw (a, b, c, parameters-alike)
 
   ballot-fault-alike : (j : ℕ) → j < k → fault q s false (Ballot j) ≡ fault q r false (Ballot j)
-  unfolding fault ballotRules atBallot
+  unfolding faultWith ballotRules atBallot _implies_
   ballot-fault-alike j l =
       let at : ℕ = firstWidth q + 197 * j in
       let a : below at (length s) ≡ below at (length r) = below-iff at (length s) .1 (omega (arith, h .long′)) ∙ sym (below-iff at (length r) .1 (omega (arith, h .long))) in
@@ -201,7 +201,7 @@ module _ (r s printed : List ℕ) (h : Alike r s printed) where
       rw (a, b, c, id-alike j l, id-alike (j - 1) (omega arith))
 
   faults-alike : (n : ℕ) → n ≤ k → first (λ j. found false q s (Ballot j)) n ≡ first (λ j. found false q r (Ballot j)) n
-  unfolding first found
+  unfolding first foundWith
   faults-alike zero l = refl
   faults-alike (suc n) l = ap₂ _then_ (faults-alike n (omega arith)) (ap (located (atBallot q n)) (ballot-fault-alike n l))
 
@@ -216,7 +216,7 @@ module _ (r s printed : List ℕ) (h : Alike r s printed) where
 
   -- the answer is the same, a refusal too
   pub prefix-decides : lookedUp s printed ≡ lookedUp r printed
-  unfolding lookedUp lookupRefusal ballotFaults found
+  unfolding lookedUp lookupRefusal ballotFaults foundWith
   prefix-decides =
       rw (parameters-alike, read-alike)
       (ap₂ (λ (f : Found) (x : List ℕ). answerOf (rule 18 (equal (length printed) 32) (numberOf f)) x)

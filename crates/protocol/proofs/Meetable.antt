@@ -20,9 +20,11 @@ use Rattle.protocol.specs.Columns.{isPermutation}
 use Rattle.protocol.specs.Layout.{numberWidth, atFirstDice, atSecondDice, atBallotHalf, atVote, atEnd, partThreeLength}
 use Rattle.protocol.specs.Record.{Board, Comparison, Disclosure, encoding}
 use Rattle.protocol.specs.Drawing.{challenge}
-use Rattle.protocol.specs.Rules.{fairDie, fairDice, rightShape}
+use Rattle.protocol.specs.Rules.{fairDie, fairDice, rightShape, original as originalBallot}
 use Rattle.protocol.specs.Judging.{judged}
-use Rattle.protocol.specs.Inputs.{Slices, inputsOf, listPermutations, dueLengths, idsRise, allPermutations, refusal, binarySides, partOneRefusal, partTwoDrawnRefusal, partThreeDrawnRefusal}
+use Rattle.protocol.specs.Inputs.{Slices, inputsOf, listPermutations}
+use Rattle.protocol.specs.Stands.{Original}
+use Rattle.protocol.specs.Refusals.{dueLengths, idsRise, allPermutations, refusal, binarySides, partOneRefusal, partTwoDrawnRefusal, partThreeDrawnRefusal, allOriginal}
 use Rattle.protocol.specs.Servers.{postedBoard, postedComparison, postedDisclosure, firstPart, maskFor}
 use Rattle.protocol.specs.Results.{announcedVotes}
 use Rattle.protocol.specs.Election.{chosen, drawn, maskBy, secondRefusal, thirdRefusal, maskInShape, sidesDue, sidesBinary, electionRefusal, electionMask, electionRecord}
@@ -96,6 +98,10 @@ module _ (s : Slices) (outLong : ℕ) (fit : FourBytes s) (h : partOneRefusal s 
   unfolding partOneRefusal
   good = good-inputs s (unrefused s _ _ _ _ h) fit
 
+  original : Original (postedBoard (inputsOf s))
+  unfolding partOneRefusal
+  original = unrefused s _ _ _ _ h .original
+
   same-sides : ℕ → List ℕ
   same-sides b = replicate (s .parameters .ballots) b
 
@@ -131,9 +137,9 @@ module _ (s : Slices) (outLong : ℕ) (fit : FourBytes s) (h : partOneRefusal s 
       let e₁ = is-encoding s good ones30 M ones30 (same-sides 0) t₁ in
       let e₂ = is-encoding s good ones30 M ones30 (same-sides 1) t₂ in
       let e₃ = is-encoding s good ones30 N ones30 (same-sides 0) t₃ in
-      let a₁ = written-accepted s good ones30 M ones30 (same-sides 0) t₁ in
-      let a₂ = written-accepted s good ones30 M ones30 (same-sides 1) t₂ in
-      let a₃ = written-accepted s good ones30 N ones30 (same-sides 0) t₃ in
+      let a₁ = written-accepted s good ones30 M ones30 (same-sides 0) t₁ original in
+      let a₂ = written-accepted s good ones30 M ones30 (same-sides 1) t₂ original in
+      let a₃ = written-accepted s good ones30 N ones30 (same-sides 0) t₃ original in
       rw (e₁, e₂, e₃)
       (met _ _ _ _ _ _
       (fits s good ones30 M ones30 (same-sides 0) t₁) (fits s good ones30 M ones30 (same-sides 1) t₂) (fits s good ones30 N ones30 (same-sides 0) t₃)
@@ -164,7 +170,7 @@ tiny =
     }
 
 pub tiny-unrefused : refusal tiny true true true true ≡ 0
-unfolding tiny refusal inLimits modulusInLimits ballotsInLimits listsInLimits dueLengths idsRise allBelow allPermutations isPermutation inputsOf listPermutations rule equal differ below atMost _and_ _or_ every
+unfolding tiny refusal inLimits modulusInLimits ballotsInLimits listsInLimits dueLengths idsRise allBelow allPermutations isPermutation inputsOf listPermutations rule equal differ below atMost _and_ _or_ every allOriginal originalBallot
 tiny-unrefused = refl
 
 -- ---- three records of it, all of whose hypotheses hold
@@ -183,7 +189,7 @@ tiny-fits = record { ids = tiny-ids; election = omega arith }
 
 -- part one of the smallest election has 597 bytes
 pub tiny-part-one : partOneRefusal tiny 597 ≡ 0
-unfolding tiny partOneRefusal atFirstDice numberWidth refusal inLimits modulusInLimits ballotsInLimits listsInLimits dueLengths idsRise allBelow allPermutations isPermutation inputsOf listPermutations rule equal differ below atMost _and_ _or_ every
+unfolding tiny partOneRefusal atFirstDice numberWidth refusal inLimits modulusInLimits ballotsInLimits listsInLimits dueLengths idsRise allBelow allPermutations isPermutation inputsOf listPermutations rule equal differ below atMost _and_ _or_ every allOriginal originalBallot
 tiny-part-one = refl
 
 -- masks 1 and 2; sides 0, 1 and 0
@@ -199,12 +205,12 @@ tiny-announces = triple-announces tiny 597 tiny-fits tiny-part-one
 
 -- part two has 45 bytes
 tiny-part-two : partTwoDrawnRefusal tiny allOnes 597 45 ≡ 0
-unfolding tiny partTwoDrawnRefusal atFirstDice numberWidth fairDice fairDie refusal inLimits modulusInLimits ballotsInLimits listsInLimits dueLengths idsRise allBelow allPermutations isPermutation inputsOf listPermutations rule equal differ below atMost _and_ _or_ every
+unfolding tiny partTwoDrawnRefusal atFirstDice numberWidth fairDice fairDie refusal inLimits modulusInLimits ballotsInLimits listsInLimits dueLengths idsRise allBelow allPermutations isPermutation inputsOf listPermutations rule equal differ below atMost _and_ _or_ every allOriginal originalBallot
 tiny-part-two = refl
 
 -- part three has 483 bytes; of the mask only its shape counts
 tiny-part-three : (mask : ℕ) → rightShape 1 mask ≡ true → partThreeDrawnRefusal tiny allOnes mask 597 45 483 ≡ 0
-unfolding tiny partThreeDrawnRefusal atFirstDice numberWidth partThreeLength fairDice fairDie refusal inLimits modulusInLimits ballotsInLimits listsInLimits dueLengths idsRise allBelow allPermutations isPermutation inputsOf listPermutations rule equal differ below atMost _and_ _or_ every
+unfolding tiny partThreeDrawnRefusal atFirstDice numberWidth partThreeLength fairDice fairDie refusal inLimits modulusInLimits ballotsInLimits listsInLimits dueLengths idsRise allBelow allPermutations isPermutation inputsOf listPermutations rule equal differ below atMost _and_ _or_ every allOriginal originalBallot
 tiny-part-three mask h = rw h
 
 tiny-unrefusing : Unrefusing tiny drawn allOnes drawn allOnes
@@ -225,5 +231,5 @@ tiny-announced = complete tiny drawn allOnes drawn allOnes tiny-fits tiny-unrefu
 
 -- the three calls as one, mask and sides given: the record has 1,125 bytes
 pub tiny-election : electionRefusal tiny (chosen 1) allOnes (chosen (0 ∷ [])) allOnes 597 45 483 1125 ≡ 0
-unfolding tiny electionRefusal maskInShape sidesDue sidesBinary binarySides rightShape ones atFirstDice numberWidth atSecondDice atBallotHalf atVote atEnd partThreeLength fairDice fairDie refusal inLimits modulusInLimits ballotsInLimits listsInLimits dueLengths idsRise allBelow allPermutations isPermutation inputsOf listPermutations rule equal differ below atMost _and_ _or_ every
+unfolding tiny electionRefusal maskInShape sidesDue sidesBinary binarySides rightShape ones atFirstDice numberWidth atSecondDice atBallotHalf atVote atEnd partThreeLength fairDice fairDie refusal inLimits modulusInLimits ballotsInLimits listsInLimits dueLengths idsRise allBelow allPermutations isPermutation inputsOf listPermutations rule equal differ below atMost _and_ _or_ every allOriginal originalBallot
 tiny-election = refl

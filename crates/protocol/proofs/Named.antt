@@ -7,7 +7,7 @@ use Prim.Native.Nat.{ℕ, zero, suc, _+_, _-_, _≤_, _<_}
 use native.Mathlib.Numerals.{unary-clauses}
 use native.Mathlib.Omega.{arith}
 use lib.Dec.{leb, ltb}
-use Rattle.laws.specs.Tests.{atMost, _and_, equal-iff, unequal-iff, differ-fails, below-fails, atMost-fails, and-fails, or-fails, implies-fails, every-fails, same-fails}
+use Rattle.laws.specs.Tests.{atMost, _and_, equal-iff, unequal-iff, differ-fails, below-fails, atMost-fails, and-fails, or-fails, implies-fails, every-fails, same-fails, unlike-fails}
 use Rattle.laws.specs.Faults.{rule}
 use Rattle.laws.specs.Modular.{plus, minus}
 use Rattle.laws.specs.Permuting.{permutes-fails}
@@ -15,9 +15,9 @@ use Rattle.protocol.specs.declared.Parameters.{Parameters}
 use Rattle.protocol.specs.declared.Due.{Due}
 use Rattle.protocol.specs.declared.Due.the-variants.{First, Ballot, Entry, FirstDice, Link, SecondDice, BallotHalf, ListHalf, Vote, FullOpening, End}
 use Rattle.protocol.specs.Terms.{item, modulusInLimits, ballotsInLimits, listsInLimits, inLimits, opened}
-use Rattle.protocol.specs.Record.{voteOf}
-use Rattle.protocol.specs.Rules.{fairDie, fairDice, rightShape, numbersBelow, gives, agrees, firstRules, ballotRules, entryRules, firstDiceRules, linkRules, secondDiceRules, ballotHalfRules, listHalfRules, voteRules, fullRules, rules as rulesOf, fault}
-use Rattle.protocol.specs.Broken.{Test, noneLeft, notDue, cutShort, numbered, testNumber, testRank, Unfair, Broken, none-left, cut-short, not-due, modulus, ballots, lists, entry-list, entry-position, link-list, link-ballot, half-ballot, half-list, half-position, vote-index, full-list, full-position, id, first-die, second-die, mask-ones, mask-bits, mask-drawn, position, taken, shift, ballot-number, list-number, vote, full-number, side, side-drawn, ballot-opening, list-opening, full-opening, first-halves, second-halves, falls, values}
+use Rattle.protocol.specs.Record.{idOf, voteOf}
+use Rattle.protocol.specs.Rules.{fairDie, fairDice, rightShape, numbersBelow, gives, apart, original, agrees, firstRules, ballotRules, entryRules, firstDiceRules, linkRules, secondDiceRules, ballotHalfRules, listHalfRules, voteRules, fullRules, rulesWith, faultWith}
+use Rattle.protocol.specs.Broken.{Test, noneLeft, notDue, cutShort, numbered, testNumber, testRank, Unfair, Broken, none-left, cut-short, not-due, modulus, ballots, lists, entry-list, entry-position, link-list, link-ballot, half-ballot, half-list, half-position, vote-index, full-list, full-position, id, first-die, second-die, mask-ones, mask-bits, mask-drawn, position, taken, shift, ballot-number, list-number, vote, full-number, side, side-drawn, ballot-opening, list-opening, full-opening, first-halves, second-halves, falls, values, copied}
 use Rattle.protocol.proofs.Chains.{Firsts, Chain, kept-chain, rule-chain, chain-firsts}
 
 -- ---- tests that fail, as statements
@@ -47,6 +47,21 @@ unfolding agrees
 disagree M zero b l t = (λ e. inl (refl, unequal-iff _ _ .0 e), ⊎-elim (λ h. unequal-iff _ _ .1 (h .1)) (λ h. absurd (h .0 refl)))
 disagree M (suc s) b l t = (λ e. inr (λ z. omega arith, unequal-iff _ _ .0 e), ⊎-elim (λ h. absurd (let z = h .0 in omega arith)) (λ h. unequal-iff _ _ .1 (h .1)))
 
+-- a ballot that is not original has a commitment of an earlier one
+pub unoriginal : (posted : ℕ → ℕ → List ℕ) (j : ℕ) → (original posted j ≡ false)
+    ↔ ((i s t : ℕ) × (i < j) × (s < 6) × (t < 6) × (posted i s ≡ posted j t))
+unfolding original apart
+unoriginal posted j = (
+  λ e.
+      let (i, l, f) = every-fails _ _ .0 e in
+      let (s, m, g) = every-fails _ _ .0 f in
+      let (t, n, h) = every-fails _ _ .0 g in
+      (i, s, t, l, m, n, unlike-fails _ _ .0 h),
+  λ c.
+      let (i, s, t, l, m, n, h) = c in
+      every-fails _ _ .1 (i, l, every-fails _ _ .1 (s, m, every-fails _ _ .1 (t, n, unlike-fails _ _ .1 h))),
+)
+
 -- ---- the rules of each command
 
 -- a rule with its number; what its failed test says
@@ -54,11 +69,11 @@ abbrev numbers : {P : Test → Type 0} {s : ℕ} (k : ℕ) → leb s (3 + k) ≡
     → Chain testNumber testRank P (3 + k) rest → Chain testNumber testRank P s (rule k b rest)
 numbers k up pos b rest say c = rule-chain testNumber testRank (numbered k) b rest up pos say c
 
-module _ (drawn : Bool) (p : Parameters) (r : List ℕ) where
+module _ (copies drawn : Bool) (p : Parameters) (r : List ℕ) where
   abbrev Rules : Due → ℕ → Type 1
-  Rules d v = Chain testNumber testRank (Broken drawn p r d) 2 v
+  Rules d v = Chain testNumber testRank (Broken copies drawn p r d) 2 v
 
-  abbrev end : {d : Due} {s : ℕ} → Chain testNumber testRank (Broken drawn p r d) s 0
+  abbrev end : {d : Due} {s : ℕ} → Chain testNumber testRank (Broken copies drawn p r d) s 0
   end = kept-chain testNumber testRank
 
   first-chain : Rules First (firstRules r)
@@ -68,10 +83,15 @@ module _ (drawn : Bool) (p : Parameters) (r : List ℕ) where
       (λ e. ⊎-elim (λ f. modulus (outside _ _ _ .0 f)) (λ g. ⊎-elim (λ f. ballots (outside _ _ _ .0 f)) (λ f. lists (outside _ _ _ .0 f)) (and-fails _ _ .0 g)) (and-fails _ _ .0 e))
       end
 
-  ballot-chain : (j : ℕ) → Rules (Ballot j) (ballotRules p r j)
+  ballot-chain : (j : ℕ) → Rules (Ballot j) (ballotRules p r copies j)
   unfolding ballotRules
-  ballot-chain zero = numbers 5 refl refl _ _ (λ e. absurd (unequal-iff _ _ .0 (or-fails _ _ .0 e .0) refl)) end
-  ballot-chain (suc j) = numbers 5 refl refl _ _ (λ e. id j (simp unary-clauses at (below-fails _ _ .0 (or-fails _ _ .0 e .1)))) end
+  ballot-chain j =
+      numbers 5 refl refl _ _ (λ e. let t = or-fails _ _ .0 e in above j (unequal-iff _ _ .0 (t .0)) (below-fails _ _ .0 (t .1)))
+      (numbers 21 refl refl _ _ (λ e. let t = implies-fails _ _ .0 e in let (i, s, u, l, ls, lu, q) = unoriginal _ j .0 (t .1) in copied i j s u (t .0) l ls lu q) end)
+    where
+      above : (j : ℕ) → j ≢ 0 → idOf p r j ≤ idOf p r (j - 1) → Broken copies drawn p r (Ballot j) (numbered 5)
+      above zero ne h = absurd (ne refl)
+      above (suc j) ne h = id j (simp unary-clauses at h)
 
   entry-chain : (l i : ℕ) → Rules (Entry l i) (entryRules p r l i)
   unfolding entryRules
@@ -121,7 +141,7 @@ module _ (drawn : Bool) (p : Parameters) (r : List ℕ) where
       numbers 4 refl refl _ _ (λ e. vote-index i (unequal-iff _ _ .0 e))
       (numbers 10 refl refl _ _ (λ e. vote i (below-fails _ _ .0 e)) (numbers 15 refl refl _ _ (λ e. let t = or-fails _ _ .0 e in fall i (unequal-iff _ _ .0 (t .0)) (atMost-fails _ _ .0 (t .1))) end))
     where
-      fall : (i : ℕ) → i ≢ 0 → voteOf p r i < voteOf p r (i - 1) → Broken drawn p r (Vote i) (numbered 15)
+      fall : (i : ℕ) → i ≢ 0 → voteOf p r i < voteOf p r (i - 1) → Broken copies drawn p r (Vote i) (numbered 15)
       fall zero ne h = absurd (ne refl)
       fall (suc i) ne h = falls i (simp unary-clauses at h)
 
@@ -134,7 +154,7 @@ module _ (drawn : Bool) (p : Parameters) (r : List ℕ) where
       (numbers 13 refl refl _ _ (λ e. let t = every-fails _ _ .0 e in full-opening l i (t .0) (t .1) (same-fails _ _ .0 (t .2)))
       (numbers 16 refl refl _ _ (λ e. let t = implies-fails _ _ .0 e in values l i (equal-iff _ _ .0 (t .0)) (permutes-fails _ _ _ .0 (t .1))) end))))
 
-  rules-chain : (d : Due) → Rules d (rulesOf p r drawn d)
+  rules-chain : (d : Due) → Rules d (rulesWith p r copies drawn d)
   rules-chain First = first-chain
   rules-chain (Ballot j) = ballot-chain j
   rules-chain (Entry l i) = entry-chain l i
@@ -147,8 +167,8 @@ module _ (drawn : Bool) (p : Parameters) (r : List ℕ) where
   rules-chain (FullOpening l i) = full-chain l i
   rules-chain End = end
 
-  pub fault-chain : (d : Due) → Chain testNumber testRank (Broken drawn p r d) 0 (fault p r drawn d)
-  unfolding fault
+  pub fault-chain : (d : Due) → Chain testNumber testRank (Broken copies drawn p r d) 0 (faultWith p r copies drawn d)
+  unfolding faultWith
   fault-chain d =
       rule-chain testNumber testRank noneLeft _ _ refl refl (λ e. none-left d (below-fails _ _ .0 e))
       (rule-chain testNumber testRank notDue _ _ refl refl (λ e. not-due d (unequal-iff _ _ .0 e))
@@ -160,7 +180,7 @@ module _ (drawn : Bool) (p : Parameters) (r : List ℕ) where
   by-rule : {A B C D : Type 0} → D → A ⊎ (B ⊎ (C ⊎ D))
   by-rule h = inr (inr (inr h))
 
-  fails : {d : Due} {u : Test} → Broken drawn p r d u → fault-chain d .Fails u
+  fails : {d : Due} {u : Test} → Broken copies drawn p r d u → fault-chain d .Fails u
   unfolding fault-chain rules-chain first-chain ballot-chain entry-chain first-dice-chain link-chain second-dice-chain ballot-half-chain list-half-chain vote-chain full-chain firstRules inLimits modulusInLimits ballotsInLimits listsInLimits rightShape gives
   fails (none-left d h) = inl (refl, below-fails _ _ .1 h)
   fails (not-due d h) = inr (inl (refl, unequal-iff _ _ .1 h))
@@ -199,13 +219,14 @@ module _ (drawn : Bool) (p : Parameters) (r : List ℕ) where
   fails (first-halves l j e h) = by-rule (inr (inr (inr (inr (inl (refl, disagree _ _ _ _ _ .1 (inl (e, h))))))))
   fails (second-halves l j e h) = by-rule (inr (inr (inr (inr (inl (refl, disagree _ _ _ _ _ .1 (inr (e, h))))))))
   fails (falls i h) = by-rule (inr (inr (inl (refl, or-fails _ _ .1 (unequal-iff _ _ .1 (λ z. omega arith), atMost-fails _ _ .1 (simp unary-clauses h))))))
+  fails (copied i j s u e l ls lu h) = by-rule (inr (inl (refl, implies-fails _ _ .1 (e, unoriginal _ j .1 (i, s, u, l, ls, lu, h)))))
   fails (values l i e h) = by-rule (inr (inr (inr (inr (inl (refl, implies-fails _ _ .1 (equal-iff _ _ .1 e, permutes-fails _ _ _ .1 h)))))))
 
   -- ---- the first test that a command breaks
 
   -- a command breaks a test exactly if that test of its rules fails
-  pub broken-iff : (d : Due) (u : Test) → Broken drawn p r d u ↔ fault-chain d .Fails u
+  pub broken-iff : (d : Due) (u : Test) → Broken copies drawn p r d u ↔ fault-chain d .Fails u
   broken-iff d u = (fails, fault-chain d .says u)
 
-  pub fault-firsts : (d : Due) → Firsts testNumber testRank (Broken drawn p r d) (fault p r drawn d)
+  pub fault-firsts : (d : Due) → Firsts testNumber testRank (Broken copies drawn p r d) (faultWith p r copies drawn d)
   fault-firsts d = chain-firsts testNumber testRank (fault-chain d) (λ u. fails)

@@ -15,7 +15,8 @@ use Rattle.protocol.specs.Terms.{modulusInLimits, ballotsInLimits, lists
 use Rattle.protocol.specs.Layout.{partOneLength}
 use Rattle.protocol.specs.Record.{parametersOf}
 use Rattle.protocol.specs.Judging.{firstFault, judged}
-use Rattle.protocol.specs.Inputs.{Slices, inputsOf, refusal, partTwoDrawnRefusal}
+use Rattle.protocol.specs.Inputs.{Slices, inputsOf}
+use Rattle.protocol.specs.Refusals.{refusal, partTwoDrawnRefusal}
 use Rattle.protocol.specs.Servers.{postedBoard, firstPart, maskFor}
 use Rattle.protocol.specs.Results.{announcedVotes, announcedRefusal, acceptedWord, electionWord, electionLine, acceptedLines, refusedWord, tooLongWord, tallyLines, pageOf, page, drawRefusal, drawn}
 use Rattle.protocol.proofs.Honesty.{length-commitment}

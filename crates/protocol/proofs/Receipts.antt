@@ -10,7 +10,7 @@ use native.Mathlib.Decide.{ℕ-discrete}
 use native.Mathlib.Omega.{arith}
 use lib.ListN.{length, length-append}
 use Rattle.laws.specs.Search.{find}
-use Rattle.laws.specs.Tests.{equal, same, pick, is-equal, not-equal, equal-iff, same-iff, same-fails}
+use Rattle.laws.specs.Tests.{equal, same, pick, is-equal, not-equal, equal-iff, same-iff, same-fails, never}
 use Rattle.laws.specs.Faults.{numberOf, _then_, rule-kept, rules, Numbered, numbered}
 use Rattle.laws.specs.Bytes.{number, bytes, length-bytes, number-left, number-bytes}
 use Rattle.laws.specs.Chunks.{piece}
@@ -27,8 +27,9 @@ use Rattle.protocol.specs.Tablet.{ballotCommand, receipt}
 use Rattle.protocol.specs.Layout.{atBallot, atFirstDice}
 use Rattle.protocol.specs.Record.{firstCommand, parametersOf, idOf}
 use Rattle.protocol.specs.Rules.{fault}
-use Rattle.protocol.specs.Judging.{found, ballotFaults}
-use Rattle.protocol.specs.Inputs.{Slices, inputsOf, partOneRefusal}
+use Rattle.protocol.specs.Judging.{found, foundWith, ballotFaults}
+use Rattle.protocol.specs.Inputs.{Slices, inputsOf}
+use Rattle.protocol.specs.Refusals.{partOneRefusal}
 use Rattle.protocol.specs.Servers.{postedBoard, firstPart}
 use Rattle.protocol.specs.Results.{receiptAt, receiptAmong, receiptRefusal, receiptChecked}
 use Rattle.protocol.proofs.Goodness.{FourBytes, Good}
@@ -122,12 +123,12 @@ module _ (r printed : List ℕ) where
   faults = found false (parametersOf r) r First then ballotFaults false (parametersOf r) r (parametersOf r .ballots)
 
   faults-numbered : Numbered faults
-  unfolding faults ballotFaults found
+  unfolding faults ballotFaults foundWith
   faults-numbered = search numbered depth 12
 
   faults-iff : (faults ≡ Nothing)
       ↔ ((fault (parametersOf r) r false First ≡ 0) × ((j : ℕ) → j < parametersOf r .ballots → fault (parametersOf r) r false (Ballot j) ≡ 0))
-  unfolding faults ballotFaults found
+  unfolding faults ballotFaults foundWith
   faults-iff = simp rules Iff·rfl
 
   -- "tests its receipt's length (18), then 1 to 5 as the judge"
@@ -146,7 +147,7 @@ module _ (r printed : List ℕ) where
   pub ids-rise : Checkable r printed → (j : ℕ) → suc j < parametersOf r .ballots → idOf (parametersOf r) r j < idOf (parametersOf r) r (suc j)
   ids-rise c j l =
       let p = parametersOf r in
-      ballot-tests false p r (suc j) .0 (fault-iff false p r (Ballot (suc j)) .0 (c .ballots (suc j) l) .1 .1) j refl
+      ballot-tests false p r false (suc j) .0 (fault-iff false p r (Ballot (suc j)) .0 (c .ballots (suc j) l) .1 .1) .0 j refl
 
   -- where nothing is refused the search answers
   answers : Checkable r printed → receiptChecked r printed ≡ done (receiptAmong (parametersOf r) r printed (parametersOf r .ballots))
@@ -290,7 +291,7 @@ module _ (s : Slices) (outLong : ℕ) (unrefusing : partOneRefusal s outLong ≡
       let p = inputsOf s .parameters in
       fault-iff false p r (Ballot j) .1 (
         reads-byte 2 (rw (tablet-is s j) at (ballot-at j lj)),
-        (omega (arith, ballot-inside p j lj, long), ballot-tests false p r j .1 (λ i e. rw (← e) (rises i (rw (← e) at lj)))),
+        (omega (arith, ballot-inside p j lj, long), ballot-tests false p r false j .1 (λ i e. rw (← e) (rises i (rw (← e) at lj)), λ e. absurd (never e refl))),
       )
     where
       rises : (i : ℕ) → suc i < inputsOf s .parameters .ballots → idOf (inputsOf s .parameters) (firstPart s ++ rest) i < idOf (inputsOf s .parameters) (firstPart s ++ rest) (suc i)

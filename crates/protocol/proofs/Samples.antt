@@ -20,9 +20,10 @@ use Rattle.protocol.specs.Columns.{row, thirdOffset, source, rowServer, 
 use Rattle.protocol.specs.Layout.{firstCode, numberWidth, atFirstDice, atSecondDice, atBallotHalf, atVote, atEnd, recordLength}
 use Rattle.protocol.specs.Record.{formOf, formBytes, firstCommand, entryCommand, firstDiceCommand, linkCommand, secondDiceCommand, ballotHalfCommand, listHalfCommand, voteCommand, fullCommand, parametersOf}
 use Rattle.protocol.specs.Drawing.{hexDigit, hexDigits, drawFrom}
-use Rattle.protocol.specs.Rules.{fairDie, fairDice, rightShape, agrees, fault}
-use Rattle.protocol.specs.Judging.{found, ballotFaults}
-use Rattle.protocol.specs.Inputs.{Slices, given, Inputs, ballotNumbers, listNumbers, listPermutations, ballotKeys, entryKeys, inputsOf, dueLengths, idsRise, allPermutations, refusal}
+use Rattle.protocol.specs.Rules.{fairDie, fairDice, rightShape, agrees, fault, faultWith}
+use Rattle.protocol.specs.Judging.{found, foundWith, ballotFaults}
+use Rattle.protocol.specs.Inputs.{Slices, given, Inputs, ballotNumbers, listNumbers, listPermutations, ballotKeys, entryKeys, inputsOf}
+use Rattle.protocol.specs.Refusals.{dueLengths, idsRise, allPermutations, refusal}
 use Rattle.protocol.specs.Results.{fresh, distinctVotes, voteCounts, receiptRefusal, tallyRefusal, tooLongWord, tallyLine, tallyLines, electionLine, acceptedLines, pageOf, drawRefusal}
 
 pub record Row : Type 0 where
@@ -210,11 +211,11 @@ refusals =
       computed = tallyRefusal (2 ∷ 5 ∷ 5 ∷ []) 3 3 ∷ tallyRefusal (5 ∷ 2 ∷ []) 1 2 ∷ tallyRefusal (2 ∷ 5 ∷ []) 2 1 ∷ tallyRefusal (5 ∷ 2 ∷ []) 2 2 ∷ [];
       expected = 0 ∷ 18 ∷ 18 ∷ 15 ∷ [];
     }
-    -- a part: none; lengths; ids; dice; mask; a vote; sides; a permutation
+    -- a part: lengths; ids; dice; mask; a vote; sides; a permutation (none and 21: `Meetable`, `Copies`)
     ∷ record {
       computed = (let s = slices (1 ∷ 2 ∷ []) (99 ∷ 0 ∷ []) (1 ∷ 0 ∷ []) in
-          refusal s true true true true ∷ refusal s false true true true ∷ refusal s true false true true ∷ refusal s true true false true ∷ refusal s true true true false ∷ []);
-      expected = 0 ∷ 18 ∷ 6 ∷ 7 ∷ 11 ∷ [];
+          refusal s false true true true ∷ refusal s true false true true ∷ refusal s true true false true ∷ refusal s true true true false ∷ []);
+      expected = 18 ∷ 6 ∷ 7 ∷ 11 ∷ [];
     }
     ∷ record {
       computed = refusal (slices (2 ∷ 2 ∷ []) (99 ∷ 0 ∷ []) (1 ∷ 0 ∷ [])) true true true true ∷ refusal (slices (1 ∷ 2 ∷ []) (0 ∷ 100 ∷ []) (1 ∷ 0 ∷ [])) true true true true
@@ -233,5 +234,5 @@ pub samples : List Row
 samples = starred ++ (own ++ (placed ++ refusals))
 
 pub samples-hold : map (λ (r : Row). r .computed) samples ≡ map (λ (r : Row). r .expected) samples
-unfolding samples starred firstCode numberWidth formBy formOf formBytes electionLine acceptedLines own indices lent keysWith placed slices refusals six through ones equal differ below atMost _and_ _or_ every choose rule number bytes tabulate plus minus permutes inLimits modulusInLimits ballotsInLimits listsInLimits opening digits decimal share slot ballotCommand row thirdOffset source rowServer thirdOffsets secondHalves atFirstDice atSecondDice atBallotHalf atVote atEnd firstCommand entryCommand firstDiceCommand linkCommand ballotHalfCommand listHalfCommand voteCommand hexDigit hexDigits drawFrom rightShape agrees fresh distinctVotes voteCounts tallyLine tallyLines pageOf secondDiceCommand fullCommand receipt ballotNumbers listNumbers listPermutations ballotKeys entryKeys inputsOf tabletRefusal rowRefusal pairRefusal allBelow isPermutation receiptRefusal numberOf _then_ first located found ballotFaults fault parametersOf tallyRefusal refusal dueLengths idsRise allPermutations drawRefusal fairDice fairDie
+unfolding samples starred firstCode numberWidth formBy formOf formBytes electionLine acceptedLines own indices lent keysWith placed slices refusals six through ones equal differ below atMost _and_ _or_ every choose rule number bytes tabulate plus minus permutes inLimits modulusInLimits ballotsInLimits listsInLimits opening digits decimal share slot ballotCommand row thirdOffset source rowServer thirdOffsets secondHalves atFirstDice atSecondDice atBallotHalf atVote atEnd firstCommand entryCommand firstDiceCommand linkCommand ballotHalfCommand listHalfCommand voteCommand hexDigit hexDigits drawFrom rightShape agrees fresh distinctVotes voteCounts tallyLine tallyLines pageOf secondDiceCommand fullCommand receipt ballotNumbers listNumbers listPermutations ballotKeys entryKeys inputsOf tabletRefusal rowRefusal pairRefusal allBelow isPermutation receiptRefusal numberOf _then_ first located foundWith ballotFaults faultWith parametersOf tallyRefusal refusal dueLengths idsRise allPermutations drawRefusal fairDice fairDie
 samples-hold = refl

@@ -16,7 +16,7 @@ use Rattle.protocol.specs.Terms.{item, opened, commitment}
 use Rattle.protocol.specs.Tablet.{ballotCommand}
 use Rattle.protocol.specs.Layout.{lists, atEntry, atFirstDice, atSecondDice, atBallotHalf, atVote}
 use Rattle.protocol.specs.Record.{Board, Comparison, Disclosure, boardOf, comparisonOf, disclosureOf, entryCommand, firstDiceCommand, linkCommand, secondDiceCommand, ballotHalfCommand, listHalfCommand, voteCommand, fullCommand, partOne, partTwo, partThree, encoding, parametersOf, idOf, ballotCommitmentOf, entryCommitmentOf, linkPlace, positionOf, sideOf, ballotOpeningOf, listHalfPlace, listOpeningOf, voteOf, fullPlace, fullOpeningOf}
-use Rattle.protocol.specs.Stands.{Laid, Valid, Stands}
+use Rattle.protocol.specs.Stands.{Laid, Valid, Stands, Original}
 use Rattle.protocol.specs.Results.{announcedVotes}
 use Rattle.protocol.proofs.Fitting.{Fits}
 use Rattle.protocol.proofs.Operands.{reads-first, reads-byte, reads-number, entry-list, entry-position, link-list, link-ballot, ballot-half-ballot, list-half-list, list-half-position, vote-index, full-list, full-position}
@@ -205,8 +205,13 @@ module _ (b : Board) (k : Comparison) (d : Disclosure) (f : Fits b k d) where
           values = values-read;
         }
 
-  pub stands : Valid b k d → Stands (encoding b k d)
-  stands v = record { laid = rw (read-parameters b k d f) laid; valid = valid v }
+  original : Original b → Original (boardOf (encoding b k d))
+  original o = rw (read-parameters b k d f) record {
+    apart = λ i j s t l lj ls lt. rw (read-ballot-commitment b k d f i s (omega arith) ls, read-ballot-commitment b k d f j t lj lt) (o .apart i j s t l lj ls lt);
+  }
+
+  pub stands : Valid b k d → Original b → Stands (encoding b k d)
+  stands v o = record { laid = rw (read-parameters b k d f) laid; valid = valid v; original = original o }
 
   -- ---- what comes before the dice
 

@@ -1,7 +1,7 @@
 -- The tests of each command, as plain statements.
 use mathlib.Core.Path.{_≡_, refl, subst}
 use mathlib.Core.Logic.{_↔_, _≢_, Iff·rfl}
-use mathlib.Core.Bool.{Bool, true}
+use mathlib.Core.Bool.{Bool, true, false}
 use mathlib.Core.List.{List}
 use Prim.Native.Nat.{ℕ, suc, _+_, _-_, _*_, _%_, _^_, _≤_, _<_}
 use native.Mathlib.Omega.{arith}
@@ -22,7 +22,7 @@ use Rattle.protocol.specs.Layout.{code, width, atEntry, atFirstDice, atS
 use Rattle.protocol.specs.Record.{parametersOf, idOf, ballotCommitmentOf, entryCommitmentOf, firstDiceOf, maskOf, linkPlace, positionOf, shiftOf, secondDiceOf, sideOf, ballotOpeningOf, listHalfPlace, listOpeningOf, voteOf, fullPlace, fullOpeningOf}
 use Rattle.protocol.specs.Drawing.{challenge, drawnMask, drawnSide}
 use Rattle.protocol.proofs.Agreeing.{sum-of-three, sum-of-six, agrees-iff}
-use Rattle.protocol.specs.Rules.{fairDie, fairDice, rightShape, numbersBelow, gives, firstRules, ballotRules, entryRules, firstDiceRules, linkRules, secondDiceRules, ballotHalfRules, listHalfRules, voteRules, fullRules, rules as rulesOf, placeOf, fault}
+use Rattle.protocol.specs.Rules.{fairDie, fairDice, rightShape, numbersBelow, gives, apart, original, firstRules, ballotRules, entryRules, firstDiceRules, linkRules, secondDiceRules, ballotHalfRules, listHalfRules, voteRules, fullRules, rulesWith, rules as rulesOf, placeOf, fault, faultWith}
 
 pub wide : (p : Parameters) (d : Due) → 0 < width p d
 wide p First = omega arith
@@ -49,13 +49,17 @@ ruleset tests = (last-rule, unequal-iff, rules)
 
 module _ (drawn : Bool) (p : Parameters) (r : List ℕ) where
   -- the command stands whole where it is due, and keeps its rules
-  pub fault-iff : (d : Due) → (fault p r drawn d ≡ 0)
-      ↔ ((item r (placeOf p r d) ≡ code p d) × ((placeOf p r d + width p d ≤ length r) × (rulesOf p r drawn d ≡ 0)))
-  unfolding fault
-  fault-iff d = (
+  pub fault-with-iff : (copies : Bool) (d : Due) → (faultWith p r copies drawn d ≡ 0)
+      ↔ ((item r (placeOf p r d) ≡ code p d) × ((placeOf p r d + width p d ≤ length r) × (rulesWith p r copies drawn d ≡ 0)))
+  unfolding faultWith
+  fault-with-iff copies d = (
     λ e. let h = simp rules at e in (h .1 .0, (h .1 .1 .0, h .1 .1 .1)),
     λ h. let w : 0 < width p d = wide p d in simp rules (omega (arith, h .1 .0), (h .0, (h .1 .0, h .1 .1))),
   )
+
+  pub fault-iff : (d : Due) → (fault p r drawn d ≡ 0)
+      ↔ ((item r (placeOf p r d) ≡ code p d) × ((placeOf p r d + width p d ≤ length r) × (rulesOf p r drawn d ≡ 0)))
+  fault-iff d = fault-with-iff false d
 
   pub first-tests : (firstRules r ≡ 0)
       ↔ (((2 ≤ parametersOf r .modulus) × (parametersOf r .modulus ≤ 4294967295))
@@ -64,9 +68,11 @@ module _ (drawn : Bool) (p : Parameters) (r : List ℕ) where
   unfolding firstRules inLimits modulusInLimits ballotsInLimits listsInLimits parametersOf
   first-tests = simp tests Iff·rfl
 
-  pub ballot-tests : (j : ℕ) → (ballotRules p r j ≡ 0) ↔ ((i : ℕ) → suc i ≡ j → idOf p r i < idOf p r j)
-  unfolding ballotRules
-  ballot-tests j = simp (tests, before (λ i. idOf p r i < idOf p r j) j) Iff·rfl
+  pub ballot-tests : (copies : Bool) (j : ℕ) → (ballotRules p r copies j ≡ 0)
+      ↔ (((i : ℕ) → suc i ≡ j → idOf p r i < idOf p r j)
+      × (copies ≡ true → (i : ℕ) → i < j → (s : ℕ) → s < 6 → (t : ℕ) → t < 6 → ballotCommitmentOf p r i s ≢ ballotCommitmentOf p r j t))
+  unfolding ballotRules original apart
+  ballot-tests copies j = simp (tests, before (λ i. idOf p r i < idOf p r j) j) Iff·rfl
 
   pub entry-tests : (l i : ℕ) → (entryRules p r l i ≡ 0) ↔ ((number r (atEntry p l i + 1) 1 ≡ l) × (number r (atEntry p l i + 2) 2 ≡ i))
   unfolding entryRules

@@ -14,14 +14,16 @@ use Rattle.protocol.specs.Rules.{rightShape}
 use Rattle.protocol.specs.Tablet.{tabletRefusal}
 use Rattle.protocol.specs.Columns.{isPermutation, rowRefusal, pairRefusal}
 use Rattle.protocol.specs.Results.{drawRefusal}
-use Rattle.protocol.specs.Inputs.{Slices, dueLengths, idsRise, allPermutations, refusal, partOneRefusal, partTwoRefusal, partTwoDrawnRefusal, binarySides, partThreeRefusal, partThreeDrawnRefusal}
+use Rattle.protocol.specs.Inputs.{Slices, inputsOf}
+use Rattle.protocol.specs.Servers.{postedBoard}
+use Rattle.protocol.specs.Refusals.{dueLengths, idsRise, allPermutations, refusal, partOneRefusal, partTwoRefusal, partTwoDrawnRefusal, binarySides, partThreeRefusal, partThreeDrawnRefusal, allOriginal}
 use Rattle.protocol.specs.Election.{Choice, chosen, drawn, maskInShape, sidesDue, sidesBinary, electionRefusal}
 use Rattle.protocol.specs.Broken.{ModulusOutside, BallotsOutside, ListsOutside}
-use Rattle.protocol.specs.Unfit.{InputTest, three, eighteen, rest, inputNumber, inputRank, Wrong, Unfit, outside-limits, other-length, not-above, unfair, wrong-shape, not-below, above-one, no-permutation, FirstRefusal, Misshapen, AnyNotBelow, AnyAboveOne, NoPermutation, tabletWrong, rowWrong, pairWrong, drawWrong, partWrong, partOneWrong, partTwoWrong, partTwoDrawnWrong, partThreeWrong, partThreeDrawnWrong, maskWrong, sidesOtherLength, sidesWrong, electionWrong}
+use Rattle.protocol.specs.Unfit.{InputTest, three, eighteen, rest, inputNumber, inputRank, Wrong, Unfit, outside-limits, other-length, not-above, unfair, wrong-shape, not-below, above-one, no-permutation, FirstRefusal, Misshapen, AnyNotBelow, AnyAboveOne, NoPermutation, tabletWrong, rowWrong, pairWrong, drawWrong, partWrong, partOneWrong, partTwoWrong, partTwoDrawnWrong, partThreeWrong, partThreeDrawnWrong, maskWrong, sidesOtherLength, sidesWrong, electionWrong, copied-ballot, AnyCopied}
 use Rattle.protocol.proofs.Chains.{Firsts, Chain, kept-chain, rule-chain, chain-firsts, firsts-none, firsts-some}
-use Rattle.protocol.proofs.Named.{outside, unfair as unfair-iff}
+use Rattle.protocol.proofs.Named.{outside, unfair as unfair-iff, unoriginal}
 
--- ---- the eight tests in their order
+-- ---- the nine tests in their order
 
 alike : (t u : InputTest) → inputRank t ≡ inputRank u → inputNumber t ≡ inputNumber u
 alike three three e = refl
@@ -35,17 +37,17 @@ alike (rest j) eighteen e = absurd (omega arith)
 alike (rest j) (rest k) e = omega arith
 
 -- the test b fails exactly if A
-abbrev Tells : Bool → Type 0 → Type 0
+abbrev pub Tells : Bool → Type 0 → Type 0
 Tells b A = (b ≡ false) ↔ A
 
-module _ (w : Wrong) (b3 b18 b5 b6 b7 b10 b11 b19 : Bool) where
-  eight : ℕ
-  eight = rule 3 b3 (rule 18 b18 (rule 5 b5 (rule 6 b6 (rule 7 b7 (rule 10 b10 (rule 11 b11 (rule 19 b19 kept)))))))
+module _ (w : Wrong) (b3 b18 b5 b6 b7 b10 b11 b19 b21 : Bool) where
+  nine : ℕ
+  nine = rule 3 b3 (rule 18 b18 (rule 5 b5 (rule 6 b6 (rule 7 b7 (rule 10 b10 (rule 11 b11 (rule 19 b19 (rule 21 b21 kept))))))))
 
-  module _ (t3 : Tells b3 (w .limits)) (t18 : Tells b18 (w .lengths)) (t5 : Tells b5 (w .ids)) (t6 : Tells b6 (w .dice)) (t7 : Tells b7 (w .mask)) (t10 : Tells b10 (w .numbers)) (t11 : Tells b11 (w .sides)) (t19 : Tells b19 (w .permutations)) where
-    eight-chain : Chain inputNumber inputRank (Unfit w) 0 eight
-    unfolding eight
-    eight-chain =
+  module _ (t3 : Tells b3 (w .limits)) (t18 : Tells b18 (w .lengths)) (t5 : Tells b5 (w .ids)) (t6 : Tells b6 (w .dice)) (t7 : Tells b7 (w .mask)) (t10 : Tells b10 (w .numbers)) (t11 : Tells b11 (w .sides)) (t19 : Tells b19 (w .permutations)) (t21 : Tells b21 (w .copies)) where
+    nine-chain : Chain inputNumber inputRank (Unfit w) 0 nine
+    unfolding nine
+    nine-chain =
         rule-chain inputNumber inputRank three _ _ refl refl (λ e. outside-limits (t3 .0 e))
         (rule-chain inputNumber inputRank eighteen _ _ refl refl (λ e. other-length (t18 .0 e))
         (rule-chain inputNumber inputRank (rest 5) _ _ refl refl (λ e. not-above (t5 .0 e))
@@ -53,10 +55,11 @@ module _ (w : Wrong) (b3 b18 b5 b6 b7 b10 b11 b19 : Bool) where
         (rule-chain inputNumber inputRank (rest 7) _ _ refl refl (λ e. wrong-shape (t7 .0 e))
         (rule-chain inputNumber inputRank (rest 10) _ _ refl refl (λ e. not-below (t10 .0 e))
         (rule-chain inputNumber inputRank (rest 11) _ _ refl refl (λ e. above-one (t11 .0 e))
-        (rule-chain inputNumber inputRank (rest 19) _ _ refl refl (λ e. no-permutation (t19 .0 e)) (kept-chain inputNumber inputRank))))))))
+        (rule-chain inputNumber inputRank (rest 19) _ _ refl refl (λ e. no-permutation (t19 .0 e))
+        (rule-chain inputNumber inputRank (rest 21) _ _ refl refl (λ e. copied-ballot (t21 .0 e)) (kept-chain inputNumber inputRank)))))))))
 
-    fails : {u : InputTest} → Unfit w u → eight-chain .Fails u
-    unfolding eight-chain
+    fails : {u : InputTest} → Unfit w u → nine-chain .Fails u
+    unfolding nine-chain
     fails (outside-limits h) = inl (refl, t3 .1 h)
     fails (other-length h) = inr (inl (refl, t18 .1 h))
     fails (not-above h) = inr (inr (inl (refl, t5 .1 h)))
@@ -65,9 +68,10 @@ module _ (w : Wrong) (b3 b18 b5 b6 b7 b10 b11 b19 : Bool) where
     fails (not-below h) = inr (inr (inr (inr (inr (inl (refl, t10 .1 h))))))
     fails (above-one h) = inr (inr (inr (inr (inr (inr (inl (refl, t11 .1 h)))))))
     fails (no-permutation h) = inr (inr (inr (inr (inr (inr (inr (inl (refl, t19 .1 h))))))))
+    fails (copied-ballot h) = inr (inr (inr (inr (inr (inr (inr (inr (inl (refl, t21 .1 h)))))))))
 
-    eight-first : FirstRefusal w eight
-    eight-first =
+    nine-first : FirstRefusal w nine
+    nine-first =
         record {
           none = firsts-none inputNumber inputRank firsts;
           first = λ k ne. (
@@ -76,8 +80,8 @@ module _ (w : Wrong) (b3 b18 b5 b6 b7 b10 b11 b19 : Bool) where
           );
         }
       where
-        firsts : Firsts inputNumber inputRank (Unfit w) eight
-        firsts = chain-firsts inputNumber inputRank eight-chain (λ u. fails)
+        firsts : Firsts inputNumber inputRank (Unfit w) nine
+        firsts = chain-firsts inputNumber inputRank nine-chain (λ u. fails)
 
 -- ---- each test, as a statement
 
@@ -119,31 +123,31 @@ permutation n perm = any n (λ i. both (below-fails _ _) (any i (λ j. differ-fa
 
 pub tablet-first : (M w x y u1 u2 u3 keysLong commandLong receiptLong : ℕ)
     → FirstRefusal (tabletWrong M w x y u1 u2 u3 keysLong commandLong receiptLong) (tabletRefusal M w x y u1 u2 u3 keysLong commandLong receiptLong)
-unfolding tabletRefusal rule eight
+unfolding tabletRefusal rule nine
 tablet-first M w x y u1 u2 u3 keysLong commandLong receiptLong =
-    eight-first (tabletWrong M w x y u1 u2 u3 keysLong commandLong receiptLong) _ _ true true true _ true true (modulus M)
+    nine-first (tabletWrong M w x y u1 u2 u3 keysLong commandLong receiptLong) _ _ true true true _ true true true (modulus M)
     (both (unequal-iff _ _) (both (unequal-iff _ _) (unequal-iff _ _))) untested untested untested
-    (both (below-fails _ _) (both (below-fails _ _) (both (below-fails _ _) (both (below-fails _ _) (both (below-fails _ _) (below-fails _ _)))))) untested untested
+    (both (below-fails _ _) (both (below-fails _ _) (both (below-fails _ _) (both (below-fails _ _) (both (below-fails _ _) (below-fails _ _)))))) untested untested untested
 
 pub row-first : (M n : ℕ) (numbers offsets perm : List ℕ) (outLong : ℕ)
     → FirstRefusal (rowWrong M n numbers offsets perm outLong) (rowRefusal M n numbers offsets perm outLong)
-unfolding rowRefusal rule eight
+unfolding rowRefusal rule nine
 row-first M n numbers offsets perm outLong =
-    eight-first (rowWrong M n numbers offsets perm outLong) _ _ true true true _ true _ (both (modulus M) (ballots n))
+    nine-first (rowWrong M n numbers offsets perm outLong) _ _ true true true _ true _ true (both (modulus M) (ballots n))
     (both (unequal-iff _ _) (both (unequal-iff _ _) (both (unequal-iff _ _) (unequal-iff _ _)))) untested untested untested
-    (both (all-below M numbers) (all-below M offsets)) untested (permutation n (item perm))
+    (both (all-below M numbers) (all-below M offsets)) untested (permutation n (item perm)) untested
 
 pub pair-first : (M n : ℕ) (one two : List ℕ) (outLong : ℕ) → FirstRefusal (pairWrong M n one two outLong) (pairRefusal M n one two outLong)
-unfolding pairRefusal rule eight
+unfolding pairRefusal rule nine
 pair-first M n one two outLong =
-    eight-first (pairWrong M n one two outLong) _ _ true true true _ true true (both (modulus M) (ballots n))
-    (both (unequal-iff _ _) (both (unequal-iff _ _) (unequal-iff _ _))) untested untested untested (both (all-below M one) (all-below M two)) untested untested
+    nine-first (pairWrong M n one two outLong) _ _ true true true _ true true true (both (modulus M) (ballots n))
+    (both (unequal-iff _ _) (both (unequal-iff _ _) (unequal-iff _ _))) untested untested untested (both (all-below M one) (all-below M two)) untested untested untested
 
 pub draw-first : (p : Parameters) (dice : List ℕ) (oneLong : ℕ) → FirstRefusal (drawWrong p dice oneLong) (drawRefusal p dice oneLong)
-unfolding drawRefusal rule eight
+unfolding drawRefusal rule nine
 draw-first p dice oneLong =
-    eight-first (drawWrong p dice oneLong) _ _ true _ true true true true (limits _) (both (unequal-iff _ _) (unequal-iff _ _)) untested (unfair-iff dice) untested
-    untested untested untested
+    nine-first (drawWrong p dice oneLong) _ _ true _ true true true true true (limits _) (both (unequal-iff _ _) (unequal-iff _ _)) untested (unfair-iff dice) untested
+    untested untested untested untested
 
 module _ (s : Slices) where
   -- the first number has none before it
@@ -158,13 +162,21 @@ module _ (s : Slices) where
       go zero l ne h = absurd (ne refl)
       go (suc j) l ne h = (j, l, simp unary-clauses at h)
 
+  -- a ballot has a commitment of an earlier one
+  pub copied : Tells (allOriginal s) (AnyCopied (postedBoard (inputsOf s) .ballotCommitment) (s .parameters .ballots))
+  unfolding allOriginal
+  copied = (
+    λ e. let (j, lj, h) = every-fails _ _ .0 e in let (i, a, b, l, la, lb, q) = unoriginal _ j .0 h in (i, j, a, b, l, lj, la, lb, q),
+    λ c. let (i, j, a, b, l, lj, la, lb, q) = c in every-fails _ _ .1 (j, lj, unoriginal _ j .1 (i, a, b, l, la, lb, q)),
+  )
+
   part-first : (lengths fair right binary : Bool) (L D M S : Type 0) → Tells lengths L → Tells fair D → Tells right M → Tells binary S
       → FirstRefusal (partWrong s L D M S) (refusal s lengths fair right binary)
-  unfolding refusal dueLengths allPermutations eight
+  unfolding refusal dueLengths allPermutations nine
   part-first lengths fair right binary L D M S l d m b =
-      eight-first (partWrong s L D M S) _ _ _ _ _ _ _ _ (limits _)
+      nine-first (partWrong s L D M S) _ _ _ _ _ _ _ _ _ (limits _)
       (both (both (unequal-iff _ _) (both (unequal-iff _ _) (both (unequal-iff _ _) (both (unequal-iff _ _) (unequal-iff _ _))))) l)
-      rise d m (both (all-below _ _) (all-below _ _)) b (any _ (λ l. any _ (λ c. permutation _ _)))
+      rise d m (both (all-below _ _) (all-below _ _)) b (any _ (λ l. any _ (λ c. permutation _ _))) copied
 
   sides-binary : (sides : List ℕ) → Tells (binarySides s sides) (AnyAboveOne s sides)
   unfolding binarySides

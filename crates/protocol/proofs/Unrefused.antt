@@ -15,8 +15,11 @@ use Rattle.laws.specs.Chunks.{piece, length-piece, get-piece}
 use Rattle.laws.specs.Permutations.{Perm, perm-of}
 use Rattle.protocol.specs.Terms.{item, mostBallots, allBelow, modulusInLimits, ballotsInLimits, listsInLimits, inLimits}
 use Rattle.protocol.specs.Columns.{isPermutation}
-use Rattle.protocol.specs.Rules.{fairDie, fairDice, rightShape}
-use Rattle.protocol.specs.Inputs.{Slices, ballotNumbers, listNumbers, ballotKeys, entryKeys, inputsOf, dueLengths, idsRise, allPermutations, refusal, binarySides}
+use Rattle.protocol.specs.Rules.{fairDie, fairDice, rightShape, apart, original}
+use Rattle.protocol.specs.Inputs.{Slices, ballotNumbers, listNumbers, ballotKeys, entryKeys, inputsOf}
+use Rattle.protocol.specs.Servers.{postedBoard}
+use Rattle.protocol.specs.Stands.{Original}
+use Rattle.protocol.specs.Refusals.{dueLengths, idsRise, allPermutations, refusal, binarySides, allOriginal}
 use Rattle.protocol.proofs.Goodness.{FourBytes, Good}
 use Rattle.protocol.proofs.Honesty.{Chosen}
 
@@ -45,6 +48,14 @@ permutation-iff n perm = (
   λ p. simp rules (λ j l. (p .below j l, λ i k e. let q : i ≡ j = p .apart i j (omega arith) l e in omega arith)),
 )
 
+-- rule 21, as a statement
+pub original-iff : (s : Slices) → (allOriginal s ≡ true) ↔ Original (postedBoard (inputsOf s))
+unfolding allOriginal original apart postedBoard inputsOf
+original-iff s = (
+  λ e. let h = simp rules at e in record { apart = λ i j a b l lj la lb. h j lj i l a la b lb },
+  λ o. simp rules (λ j lj i l a la b lb. o .apart i j a b l lj la lb),
+)
+
 -- ---- what no refusal gives
 
 pub record Unrefused (s : Slices) (lengths fair shape binary : Bool) : Type 0 where
@@ -67,13 +78,14 @@ pub record Unrefused (s : Slices) (lengths fair shape binary : Bool) : Type 0 wh
   pub numbers-below : Below (s .parameters .modulus) (s .numbers)
   pub binary-sides : binary ≡ true
   pub permutations : (l c : ℕ) → l < 2 * s .parameters .compared → c < 3 → Perm (s .parameters .ballots) (inputsOf s .permutation l c)
+  pub original : Original (postedBoard (inputsOf s))
 
 pub ruleset tests = (rules, all-below-iff, permutation-iff)
 
 pub unrefused : (s : Slices) (lengths fair shape binary : Bool) → refusal s lengths fair shape binary ≡ 0 → Unrefused s lengths fair shape binary
 unfolding refusal inLimits modulusInLimits ballotsInLimits listsInLimits dueLengths idsRise allPermutations
 unrefused s lengths fair shape binary e =
-    let (limits, (due, (rise, (dice, (mask, (small, (sides, (perms, rest)))))))) = simp tests at e in
+    let (limits, (due, (rise, (dice, (mask, (small, (sides, (perms, (unlike, rest))))))))) = simp tests at e in
     record {
       modulus-low = limits .0 .0;
       modulus-high = limits .0 .1;
@@ -94,6 +106,7 @@ unrefused s lengths fair shape binary e =
       numbers-below = small .1;
       binary-sides = sides;
       permutations = λ l c ll lc. perms l ll c lc;
+      original = original-iff s .0 unlike;
     }
 
 -- ---- what is read of the slices lies inside them

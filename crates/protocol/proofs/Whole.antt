@@ -12,7 +12,8 @@ use Rattle.protocol.specs.declared.Parameters.{Parameters}
 use Rattle.protocol.specs.Layout.{recordLength, partOneLength, partTwoLength, partThreeLength, atFirstDice, atSecondDice, atBallotHalf, atVote, atEnd}
 use Rattle.protocol.specs.Drawing.{challenge}
 use Rattle.protocol.specs.Rules.{fairDice, rightShape}
-use Rattle.protocol.specs.Inputs.{Slices, refusal, binarySides, partOneRefusal, partTwoRefusal, partTwoDrawnRefusal, partThreeRefusal, partThreeDrawnRefusal}
+use Rattle.protocol.specs.Inputs.{Slices}
+use Rattle.protocol.specs.Refusals.{refusal, binarySides, partOneRefusal, partTwoRefusal, partTwoDrawnRefusal, partThreeRefusal, partThreeDrawnRefusal}
 use Rattle.protocol.specs.Servers.{firstPart, maskFor}
 use Rattle.protocol.specs.Election.{Choice, chosen, drawn, maskBy, secondRefusal, thirdRefusal, electionMask, maskInShape, sidesDue, sidesBinary, electionRefusal}
 use Rattle.protocol.proofs.Drawing.{drawn-mask}

@@ -8,7 +8,8 @@ use Rattle.laws.specs.Tests.{equal, _and_}
 use Rattle.protocol.specs.declared.Parameters.{Parameters}
 use Rattle.protocol.specs.Layout.{recordLength, partOneLength, partTwoLength, partThreeLength}
 use Rattle.protocol.specs.Rules.{fairDice, rightShape}
-use Rattle.protocol.specs.Inputs.{Slices, refusal, binarySides, partTwoRefusal, partTwoDrawnRefusal, partThreeRefusal, partThreeDrawnRefusal}
+use Rattle.protocol.specs.Inputs.{Slices}
+use Rattle.protocol.specs.Refusals.{refusal, binarySides, partTwoRefusal, partTwoDrawnRefusal, partThreeRefusal, partThreeDrawnRefusal}
 use Rattle.protocol.specs.Servers.{firstPart, secondPart, maskFor, thirdPart, sidesFor}
 
 -- what is given, or drawn

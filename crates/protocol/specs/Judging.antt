@@ -1,5 +1,5 @@
 -- Document 01, "What is refused": "The judge goes command by command; the first faulty one decides."
-use mathlib.Core.Bool.{Bool}
+use mathlib.Core.Bool.{Bool, true, false}
 use mathlib.Core.List.{List, []}
 use Prim.Native.Nat.{ℕ}
 use lib.ListN.{length}
@@ -15,7 +15,7 @@ use Rattle.protocol.specs.declared.Due.the-variants.{First, Ballot, Entr
 use Rattle.protocol.specs.Answers.{Answer, answerOf}
 use Rattle.protocol.specs.Layout.{lists, recordLength}
 use Rattle.protocol.specs.Record.{parametersIn, parametersOf, maskOf}
-use Rattle.protocol.specs.Rules.{placeOf, firstRulesUpTo, inCommand, fault}
+use Rattle.protocol.specs.Rules.{placeOf, firstRulesUpTo, inCommand, faultWith}
 
 module _ (p : Parameters) (r : List ℕ) where
   -- for every compared list, and for every uncompared one
@@ -30,13 +30,19 @@ module _ (p : Parameters) (r : List ℕ) where
   trailingFault = located (recordLength p) (rule 17 (atMost (length r) (recordLength p)) kept)
 
 module _ (drawn : Bool) (p : Parameters) (r : List ℕ) where
-  -- a faulty command's number, with the place where it starts
-  unfoldable pub found : Due → Found
-  found d = located (placeOf p r d) (fault p r drawn d)
+  -- a faulty command's number, with the place where it starts; `copies` says whether rule 21 is asked for
+  unfoldable pub foundWith : Bool → Due → Found
+  foundWith copies d = located (placeOf p r d) (faultWith p r copies drawn d)
 
-  -- "They come in this order."
+  abbrev pub found : Due → Found
+  found d = foundWith false d
+
+  -- "They come in this order." The ballots as receipt check and lookup read them, and as the judge does
   unfoldable pub ballotFaults : ℕ → Found
   ballotFaults n = first (λ j. found (Ballot j)) n
+
+  unfoldable pub judgedBallots : ℕ → Found
+  judgedBallots n = first (λ j. foundWith true (Ballot j)) n
 
   unfoldable pub entryFaults : ℕ → Found
   entryFaults l = first (λ i. found (Entry l i)) (p .ballots)
@@ -57,7 +63,7 @@ module _ (drawn : Bool) (p : Parameters) (r : List ℕ) where
   fullFaults l = first (λ i. found (FullOpening l i)) (p .ballots)
 
   unfoldable pub partOneFaults : Found
-  partOneFaults = ballotFaults (p .ballots) then first entryFaults (lists p)
+  partOneFaults = judgedBallots (p .ballots) then first entryFaults (lists p)
 
   unfoldable pub partTwoFaults : Found
   partTwoFaults = found FirstDice then first (λ l. ifCompared p r l (linkFaults l)) (lists p)

@@ -8,6 +8,7 @@ pub mod Rules
 pub mod Judging
 pub mod Inputs
 pub mod Servers
+pub mod Refusals
 pub mod Results
 pub mod Answers
 pub mod Stands

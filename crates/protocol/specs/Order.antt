@@ -2,7 +2,7 @@
 -- faulty one decides."
 use mathlib.Core.Path.{_≡_}
 use mathlib.Core.Logic.{_≢_}
-use mathlib.Core.Bool.{Bool, false}
+use mathlib.Core.Bool.{Bool, true, false}
 use mathlib.Core.List.{List, [], _∷_, _++_}
 use Prim.Native.Nat.{ℕ, zero, suc, _<_}
 use lib.ListN.{length}
@@ -62,10 +62,10 @@ abbrev pub Every : (Due → Type 0) → List Due → Type 0
 Every P [] = Unit {0}
 Every P (d ∷ ds) = P d × Every P ds
 
-module _ (drawn : Bool) (r : List ℕ) where
+module _ (copies drawn : Bool) (r : List ℕ) where
   -- the command breaks test t
   abbrev pub Breaks : Due → Test → Type 0
-  Breaks d t = Broken drawn (parametersOf r) r d t
+  Breaks d t = Broken copies drawn (parametersOf r) r d t
 
   -- it breaks none
   abbrev pub Unbroken : Due → Type 0
@@ -88,12 +88,12 @@ module _ (drawn : Bool) (r : List ℕ) where
     pub number-is : k ≡ testNumber test
     pub place-is : place ≡ placeOf (parametersOf r) r faulty
 
-  -- "the first faulty one decides": what refuses the record, and where it is found
-  pub data FirstBroken (k place : ℕ) : Type 0 where
-    command : FirstIn (commandsOf r) k place → FirstBroken k place
-    -- 17 "bytes after 0B"
-    trailing : Every Unbroken (commandsOf r) → recordLength (parametersOf r) < length r → k ≡ 17 → place ≡ recordLength (parametersOf r)
-        → FirstBroken k place
+-- "the first faulty one decides": what refuses the record, and where it is found; the judge asks for rule 21
+pub data FirstBroken (drawn : Bool) (r : List ℕ) (k place : ℕ) : Type 0 where
+  command : FirstIn true drawn r (commandsOf r) k place → FirstBroken drawn r k place
+  -- 17 "bytes after 0B"
+  trailing : Every (Unbroken true drawn r) (commandsOf r) → recordLength (parametersOf r) < length r → k ≡ 17
+      → place ≡ recordLength (parametersOf r) → FirstBroken drawn r k place
 
 -- ---- the receipt check
 
@@ -101,7 +101,7 @@ module _ (drawn : Bool) (r : List ℕ) where
 unfoldable pub receiptCommands : Parameters → List Due
 receiptCommands p = (First ∷ []) ++ joined (λ j. Ballot j ∷ []) (p .ballots)
 
--- "The receipt check tests its receipt's length (18), then 1 to 5 as the judge."
+-- "The receipt check tests its receipt's length (18), then 1 to 5 as the judge.", and so without 21
 pub data ReceiptBroken (r printed : List ℕ) (k : ℕ) : Type 0 where
   other-length : length printed ≢ 32 → k ≡ 18 → ReceiptBroken r printed k
-  as-judge : length printed ≡ 32 → (place : ℕ) → FirstIn false r (receiptCommands (parametersOf r)) k place → ReceiptBroken r printed k
+  as-judge : length printed ≡ 32 → (place : ℕ) → FirstIn false false r (receiptCommands (parametersOf r)) k place → ReceiptBroken r printed k

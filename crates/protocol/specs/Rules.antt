@@ -2,12 +2,12 @@
 -- commands, from the record. `rule k test rest` is k where the test fails, else what the rest says; `kept` is no rule broken (`laws`
 -- `Faults`).
 -- `every t k`: the test t holds of 0 to k - 1 (`laws` `Tests`). `p .modulus`, `p .ballots` and `p .compared` are M, n and m.
-use mathlib.Core.Bool.{Bool}
+use mathlib.Core.Bool.{Bool, false}
 use mathlib.Core.List.{List}
 use Prim.Native.Nat.{ℕ, zero, suc, _+_, _-_, _*_, _^_}
 use lib.Count.{ones}
 use lib.ListN.{length, take}
-use Rattle.laws.specs.Tests.{equal, differ, below, atMost, _and_, _or_, _implies_, every, same}
+use Rattle.laws.specs.Tests.{equal, differ, below, atMost, _and_, _or_, _implies_, every, same, unlike}
 use Rattle.laws.specs.Faults.{rule, kept}
 use Rattle.laws.specs.Bytes.{number}
 use Rattle.laws.specs.Modular.{plus, minus}
@@ -43,6 +43,15 @@ numbersBelow M openings k = every (λ i. below (opened (openings i)) M) k
 unfoldable pub gives : Parameters → Place → List ℕ → List ℕ → Bool
 gives p place o posted = same (commitment p place o) posted
 
+-- rule 21, by document 02, item 5: "a ballot with a commitment equal to one of an earlier ballot, at whichever places, is refused. Equal
+-- ones inside one ballot stand." `posted i s` is the commitment in slot s of ballot i.
+unfoldable pub apart : (ℕ → ℕ → List ℕ) → ℕ → ℕ → Bool
+apart posted i j = every (λ s. every (λ t. unlike (posted i s) (posted j t)) 6) 6
+
+-- ballot j has no commitment of an earlier ballot
+unfoldable pub original : (ℕ → ℕ → List ℕ) → ℕ → Bool
+original posted j = every (λ i. apart posted i j) j
+
 -- rule 14, "the two halves disagree": "the ballot's three opened numbers must equal in sum: on side 0 the list's three plus t, on side 1
 -- the list's three minus t". `ballot` and `list` are the sums of the three. The sign changes because t is what the ballot's first halves
 -- have more than the list's (`linkShift` in `Servers`): its second halves have that much less, and over both sides t cancels (`both-sides`
@@ -51,7 +60,8 @@ unfoldable pub agrees : ℕ → ℕ → ℕ → ℕ → ℕ → Bool
 agrees M zero ballot list t = equal ballot (plus M list t)
 agrees M (suc side) ballot list t = equal ballot (minus M list t)
 
--- ---- the rules of a whole command; `drawn` is the switch between plain and drawn judging
+-- ---- the rules of a whole command; `drawn` is the switch between plain and drawn judging, `copies` that between the judge, who asks for
+-- rule 21, and others
 
 -- 01 and 0C: 3, where n may be up to `most`
 abbrev pub firstRulesUpTo : ℕ → List ℕ → ℕ
@@ -61,9 +71,10 @@ unfoldable pub firstRules : List ℕ → ℕ
 firstRules r = firstRulesUpTo mostBallots r
 
 module _ (p : Parameters) (r : List ℕ) where
-  -- 02: 5, "an id not above the one before"
-  unfoldable pub ballotRules : ℕ → ℕ
-  ballotRules j = rule 5 (equal j 0 or below (idOf p r (j - 1)) (idOf p r j)) kept
+  -- 02: 5, "an id not above the one before"; and "21, last in command 02 (receipt check and lookup omit it)"
+  unfoldable pub ballotRules : Bool → ℕ → ℕ
+  ballotRules copies j =
+      rule 5 (equal j 0 or below (idOf p r (j - 1)) (idOf p r j)) (rule 21 (copies implies original (ballotCommitmentOf p r) j) kept)
 
   -- 03: 4, "a list, ballot, position or index operand other than the due one"
   unfoldable pub entryRules : ℕ → ℕ → ℕ
@@ -134,18 +145,18 @@ module _ (p : Parameters) (r : List ℕ) where
       (equal (i + 1) (p .ballots) implies permutes (λ k. sumOfSix (p .modulus) (fullOpeningOf p r l k)) (voteOf p r) (p .ballots))
       kept))))
 
-  abbrev pub rules : Bool → Due → ℕ
-  rules drawn First = firstRules r
-  rules drawn (Ballot j) = ballotRules j
-  rules drawn (Entry l i) = entryRules l i
-  rules drawn FirstDice = firstDiceRules drawn
-  rules drawn (Link l j) = linkRules l j
-  rules drawn SecondDice = secondDiceRules
-  rules drawn (BallotHalf j) = ballotHalfRules drawn j
-  rules drawn (ListHalf l j) = listHalfRules l j
-  rules drawn (Vote i) = voteRules i
-  rules drawn (FullOpening l i) = fullRules l i
-  rules drawn End = kept
+  abbrev pub rulesWith : Bool → Bool → Due → ℕ
+  rulesWith copies drawn First = firstRules r
+  rulesWith copies drawn (Ballot j) = ballotRules copies j
+  rulesWith copies drawn (Entry l i) = entryRules l i
+  rulesWith copies drawn FirstDice = firstDiceRules drawn
+  rulesWith copies drawn (Link l j) = linkRules l j
+  rulesWith copies drawn SecondDice = secondDiceRules
+  rulesWith copies drawn (BallotHalf j) = ballotHalfRules drawn j
+  rulesWith copies drawn (ListHalf l j) = listHalfRules l j
+  rulesWith copies drawn (Vote i) = voteRules i
+  rulesWith copies drawn (FullOpening l i) = fullRules l i
+  rulesWith copies drawn End = kept
 
   -- where the due command stands
   abbrev pub placeOf : Due → ℕ
@@ -167,5 +178,12 @@ module _ (p : Parameters) (r : List ℕ) where
       rule 1 (below (placeOf d) (length r))
       (rule 2 (equal (item r (placeOf d)) (code p d)) (rule 1 (atMost (placeOf d + width p d) (length r)) rising))
 
-  unfoldable pub fault : Bool → Due → ℕ
-  fault drawn d = inCommand d (rules drawn d)
+  unfoldable pub faultWith : Bool → Bool → Due → ℕ
+  faultWith copies drawn d = inCommand d (rulesWith copies drawn d)
+
+  -- without rule 21: a command read by itself
+  abbrev pub rules : Bool → Due → ℕ
+  rules drawn d = rulesWith false drawn d
+
+  abbrev pub fault : Bool → Due → ℕ
+  fault drawn d = faultWith false drawn d

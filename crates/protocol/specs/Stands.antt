@@ -1,6 +1,7 @@
 -- When document 01 calls a record a proof, said without an order of tests: it has exactly its due length, every command and index
 -- stands where it is due, and what it says keeps the rules.
 use mathlib.Core.Path.{_≡_}
+use mathlib.Core.Logic.{_≢_}
 use mathlib.Core.List.{List}
 use Prim.Native.Nat.{ℕ, suc, _+_, _*_, _%_, _≤_, _<_}
 use lib.Count.{ones}
@@ -104,10 +105,15 @@ pub record Valid (b : Board) (k : Comparison) (d : Disclosure) : Type 0 where
       (b .parameters .ballots)
       ≡ times x (d .vote) (b .parameters .ballots)
 
+-- rule 21, by document 02, item 5: no ballot has "a commitment equal to one of an earlier ballot, at whichever places"
+pub record Original (b : Board) : Type 0 where
+  pub apart : (i j s t : ℕ) → i < j → j < b .parameters .ballots → s < 6 → t < 6 → b .ballotCommitment i s ≢ b .ballotCommitment j t
+
 -- a record that is a proof
 pub record Stands (r : List ℕ) : Type 0 where
   pub laid : Laid (parametersOf r) r
   pub valid : Valid (boardOf r) (comparisonOf r) (disclosureOf r)
+  pub original : Original (boardOf r)
 
 -- rules 8 and 12: "Drawn judging also demands that they be the drawn ones."
 pub record Drawn (p : Parameters) (r : List ℕ) : Type 0 where

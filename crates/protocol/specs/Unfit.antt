@@ -10,6 +10,7 @@ use Rattle.protocol.specs.declared.Parameters.{Parameters}
 use Rattle.protocol.specs.Terms.{item}
 use Rattle.protocol.specs.Layout.{lists, recordLength, partOneLength, partTwoLength, partThreeLength}
 use Rattle.protocol.specs.Inputs.{Slices, inputsOf}
+use Rattle.protocol.specs.Servers.{postedBoard}
 use Rattle.protocol.specs.Election.{Choice, chosen, drawn}
 use Rattle.protocol.specs.Broken.{ModulusOutside, BallotsOutside, ListsOutside, Unfair}
 
@@ -39,6 +40,7 @@ pub record Wrong : Type 1 where
   pub numbers : Type 0
   pub sides : Type 0
   pub permutations : Type 0
+  pub copies : Type 0
 
 pub data Unfit (w : Wrong) : InputTest → Type 0 where
   -- 3 "M, n or m outside its limits"
@@ -57,6 +59,8 @@ pub data Unfit (w : Wrong) : InputTest → Type 0 where
   above-one : w .sides → Unfit w (rest 11)
   -- 19 "a permutation that is none"
   no-permutation : w .permutations → Unfit w (rest 19)
+  -- 21 "a commitment equal to one of an earlier ballot, at whichever places" (document 02, item 5)
+  copied-ballot : w .copies → Unfit w (rest 21)
 
 -- v is 0 if nothing is wrong, else the number of the first test that fails
 pub record FirstRefusal (w : Wrong) (v : ℕ) : Type 0 where
@@ -80,6 +84,11 @@ AnyNotBelow M l = (i : ℕ) × (i < length l) × (M ≤ item l i)
 abbrev pub NoPermutation : ℕ → (ℕ → ℕ) → Type 0
 NoPermutation n perm = (i : ℕ) × (i < n) × ((n ≤ perm i) ⊎ ((j : ℕ) × (j < i) × (perm j ≡ perm i)))
 
+-- of n ballots two share a commitment, each in any of its slots
+abbrev pub AnyCopied : (ℕ → ℕ → List ℕ) → ℕ → Type 0
+AnyCopied posted n =
+    (i j s t : ℕ) × (i < j) × (j < n) × (s < 6) × (t < 6) × (posted i s ≡ posted j t)
+
 -- ---- the tablet
 
 abbrev pub tabletWrong : (M w x y u1 u2 u3 keysLong commandLong receiptLong : ℕ) → Wrong
@@ -93,6 +102,7 @@ tabletWrong M w x y u1 u2 u3 keysLong commandLong receiptLong =
       numbers = (M ≤ w) ⊎ (M ≤ x) ⊎ (M ≤ y) ⊎ (M ≤ u1) ⊎ (M ≤ u2) ⊎ (M ≤ u3);
       sides = ⊥;
       permutations = ⊥;
+      copies = ⊥;
     }
 
 -- ---- the columns
@@ -108,6 +118,7 @@ rowWrong M n row offsets permutation outLong =
       numbers = AnyNotBelow M row ⊎ AnyNotBelow M offsets;
       sides = ⊥;
       permutations = NoPermutation n (item permutation);
+      copies = ⊥;
     }
 
 abbrev pub pairWrong : ℕ → ℕ → List ℕ → List ℕ → ℕ → Wrong
@@ -121,6 +132,7 @@ pairWrong M n first second outLong =
       numbers = AnyNotBelow M first ⊎ AnyNotBelow M second;
       sides = ⊥;
       permutations = ⊥;
+      copies = ⊥;
     }
 
 -- ---- the drawing of a mask
@@ -136,6 +148,7 @@ drawWrong p dice oneLong =
       numbers = ⊥;
       sides = ⊥;
       permutations = ⊥;
+      copies = ⊥;
     }
 
 -- ---- the servers' parts: "Inputs of every part, each part testing them all"; the lengths of its other slices, dice, mask and sides are a
@@ -162,6 +175,7 @@ module _ (s : Slices) where
         numbers = AnyNotBelow (p .modulus) (s .votes) ⊎ AnyNotBelow (p .modulus) (s .numbers);
         sides = sides;
         permutations = (l : ℕ) × (l < lists p) × ((c : ℕ) × (c < 3) × NoPermutation n (inputsOf s .permutation l c));
+        copies = AnyCopied (postedBoard (inputsOf s) .ballotCommitment) n;
       }
 
   abbrev pub partOneWrong : ℕ → Wrong

@@ -19,7 +19,7 @@ use Rattle.protocol.specs.declared.Due.the-variants.{First, Ballot, Entry, Firs
 use Rattle.protocol.specs.Terms.{item}
 use Rattle.protocol.specs.Layout.{firstCode, numberWidth, firstWidth, code, width}
 use Rattle.protocol.specs.Record.{formOf, parametersOf}
-use Rattle.protocol.specs.Rules.{placeOf, rules, fault}
+use Rattle.protocol.specs.Rules.{placeOf, rules, fault, faultWith}
 use Rattle.protocol.proofs.Due.{the-type}
 use Rattle.protocol.proofs.Forms.{code-is, code-numbered, code-unnumbered, code-width}
 
@@ -64,12 +64,12 @@ no-command p End h e = h .10 e
 
 module _ (p : Parameters) (r : List ℕ) (drawn : Bool) {at : ℕ} (due : Due) (place : at ≡ placeOf p r due) where
   pub gone : length r ≤ at → 1 ≡ fault p r drawn due
-  unfolding fault
+  unfolding faultWith
   gone h = rule-stop _ _ _ (not-below (omega arith))
 
   module _ (left : at < length r) where
     not-due : (item r at ≡ code p due → ⊥) → 2 ≡ fault p r drawn due
-    unfolding fault
+    unfolding faultWith
     not-due n = rule-go _ _ _ (is-below (omega arith)) (rule-stop _ _ _ (not-equal (λ e. n (ap (item r) place ∙ e))))
 
     -- the due command is of another kind than the byte's
@@ -87,14 +87,14 @@ module _ (p : Parameters) (r : List ℕ) (drawn : Bool) {at : ℕ} (due : Due) (
 
     module _ {d : Due} (is : due ≡ d) (byte : item r at ≡ code p d) where
       pub cut : length r < at + width p d → 1 ≡ fault p r drawn due
-      unfolding fault
+      unfolding faultWith
       cut h =
           rule-go _ _ _ (is-below (omega arith))
           (rule-go _ _ _ (is-equal (ap (item r) (sym place) ∙ byte ∙ ap (code p) (sym is)))
           (rule-stop _ _ _ (not-atMost (omega (arith, place, ap (width p) is)))))
 
       pub whole : {x : ℕ} → at + width p d ≤ length r → x ≡ rules p r drawn d → x ≡ fault p r drawn due
-      unfolding fault
+      unfolding faultWith
       whole h e =
           rule-go _ _ _ (is-below (omega arith))
           (rule-go _ _ _ (is-equal (ap (item r) (sym place) ∙ byte ∙ ap (code p) (sym is)))

@@ -10,7 +10,8 @@ use Rattle.laws.specs.Chunks.{piece, get-piece}
 use Rattle.laws.specs.Permutations.{Perm}
 use Rattle.protocol.specs.Terms.{item}
 use Rattle.protocol.specs.Columns.{isPermutation}
-use Rattle.protocol.specs.Inputs.{Slices, listPermutations, inputsOf, idsRise, allPermutations}
+use Rattle.protocol.specs.Inputs.{Slices, listPermutations, inputsOf}
+use Rattle.protocol.specs.Refusals.{idsRise, allPermutations}
 use Rattle.protocol.proofs.Unrefused.{permutation-iff}
 use Rattle.refusals.specs.Contents.{rising, permutationsIn}
 

@@ -13,7 +13,8 @@ use Rattle.laws.specs.Chunks.{piece}
 use Rattle.protocol.specs.declared.Parameters.{Parameters}
 use Rattle.protocol.specs.Terms.{modulusInLimits, ballotsInLimits, listsInLimits, inLimits}
 use Rattle.protocol.specs.Rules.{fairDice}
-use Rattle.protocol.specs.Inputs.{Slices, dueLengths, binarySides, refusal}
+use Rattle.protocol.specs.Inputs.{Slices}
+use Rattle.protocol.specs.Refusals.{dueLengths, binarySides, refusal}
 use Rattle.protocol.specs.Election.{Choice, chosen, drawn, sidesDue, sidesBinary}
 use Rattle.layout.specs.Bounds.{Few}
 use Rattle.refusals.specs.Contents.{binary, binaryWhere, contentsRefusal, refusal-is}

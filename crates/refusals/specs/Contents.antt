@@ -10,7 +10,8 @@ use Rattle.laws.specs.Chunks.{piece}
 use Rattle.protocol.specs.declared.Parameters.{Parameters}
 use Rattle.protocol.specs.Terms.{item, allBelow, inLimits}
 use Rattle.protocol.specs.Columns.{isPermutation}
-use Rattle.protocol.specs.Inputs.{Slices, dueLengths, idsRise, allPermutations, refusal}
+use Rattle.protocol.specs.Inputs.{Slices}
+use Rattle.protocol.specs.Refusals.{dueLengths, idsRise, allPermutations, refusal}
 use Rattle.protocol.specs.Election.{Choice, chosen, drawn}
 
 -- each number is above the one before

@@ -16,7 +16,7 @@ use Rattle.protocol.specs.declared.Written.the-variants.{Done, Refused}
 use Rattle.protocol.specs.Answers.{answerOf, writtenAnswer}
 use Rattle.protocol.specs.Layout.{atVote}
 use Rattle.protocol.specs.Record.{parametersOf, voteOf}
-use Rattle.protocol.specs.Inputs.{afterwards}
+use Rattle.protocol.specs.Refusals.{afterwards}
 use Rattle.protocol.specs.Judging.{firstFault, judged}
 use Rattle.protocol.specs.Results.{announcedVotes, announcedRefusal}
 use Rattle.protocol.proofs.Answered.{unwritten, wrote}

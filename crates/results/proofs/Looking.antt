@@ -16,7 +16,7 @@ use Rattle.protocol.specs.declared.Parameters.{Parameters}
 use Rattle.protocol.specs.declared.Due.the-variants.{First, Ballot}
 use Rattle.protocol.specs.Answers.{Answer, done, refused, answerOf, notPosted}
 use Rattle.protocol.specs.Record.{parametersOf, idOf}
-use Rattle.protocol.specs.Judging.{found, ballotFaults}
+use Rattle.protocol.specs.Judging.{found, foundWith, ballotFaults}
 use Rattle.protocol.specs.Results.{receiptAt, receiptAmong, ballotsRead, lookupRefusal, lookedUp}
 use Rattle.protocol.proofs.Answered.{refused-is, done-is}
 use Rattle.protocol.proofs.Receipts.{among-none}
@@ -41,7 +41,7 @@ module _ (p : Parameters) (r printed : List ℕ) where
   none-named j h = among-none p r printed j (λ i l e. let s = h i l in omega arith)
 
   row-numbered : (n : ℕ) → Numbered (ballotFaults false p r n)
-  unfolding ballotFaults found
+  unfolding ballotFaults foundWith
   row-numbered n = search numbered depth 12
 
   -- a ballot with a fault
@@ -81,7 +81,7 @@ module _ (r printed : List ℕ) where
   lookup-short ne = refused-is 18 _ _ (rule-stop 18 (equal (length printed) 32) _ (not-equal ne)) (λ z. omega arith)
 
   first-numbered : Numbered (found false (parametersOf r) r First)
-  unfolding found
+  unfolding foundWith
   first-numbered = search numbered depth 12
 
   pub lookup-refused : (k : ℕ) {place : ℕ} → length printed ≡ 32 → found false (parametersOf r) r First ≡ Fault k place → refused k ≡ lookedUp r printed

@@ -15,7 +15,7 @@ use Rattle.protocol.specs.Terms.{item, mostBallots}
 use Rattle.protocol.specs.Layout.{width, firstWidth, atBallot, atVote}
 use Rattle.protocol.specs.Record.{parametersOf}
 use Rattle.protocol.specs.Rules.{placeOf, fault}
-use Rattle.protocol.specs.Judging.{found, ballotFaults, firstFault}
+use Rattle.protocol.specs.Judging.{found, foundWith, ballotFaults, firstFault}
 use Rattle.protocol.specs.Results.{announcedVotes}
 use Rattle.protocol.proofs.Announced.{announced-length, announced-item}
 use Rattle.protocol.proofs.Faultless.{Faultless, faultless-iff}
@@ -50,7 +50,7 @@ module _ (r : List ℕ) where
     pub ballots : (j : ℕ) → j < parametersOf r .ballots → fault (parametersOf r) r false (Ballot j) ≡ 0
 
   head-stands : headFault ≡ Nothing → Head
-  unfolding ballotFaults found
+  unfolding ballotFaults foundWith
   head-stands e = let t = simp rules at e in record { first = t .0; ballots = t .1 }
 
   pub head-whole : headFault ≡ Nothing → firstWidth (parametersOf r) ≤ length r
@@ -70,7 +70,7 @@ module _ (r : List ℕ) where
 
 module _ (r : List ℕ) where
   first-stands : found false (parametersOf r) r First ≡ Nothing → fault (parametersOf r) r false First ≡ 0
-  unfolding found
+  unfolding foundWith
   first-stands e = located-nothing _ _ .0 e
 
   pub first-whole : found false (parametersOf r) r First ≡ Nothing → firstWidth (parametersOf r) ≤ length r
@@ -80,7 +80,7 @@ module _ (r : List ℕ) where
   lookup-ready e s l = rw s (record { few = limits false r (first-stands e) .few .ballots; long = l })
 
 pub ballot-ready : (p : Parameters) (r printed : List ℕ) (j : ℕ) → j ≤ mostBallots → found false p r (Ballot j) ≡ Nothing → length printed ≡ 32 → BallotReady p r printed j
-unfolding found atBallot
+unfolding foundWith atBallot
 ballot-ready p r printed j few e l =
     let w : atBallot p j + 197 ≤ length r = stands-whole false p r (Ballot j) (located-nothing _ _ .0 e) in
     record { few = few; reaches = omega arith; long = l }

@@ -12,14 +12,14 @@ use Rattle.laws.specs.Faults.{numberOf, nothing-fault, rule-go, rule-stop, Numb
 use Rattle.protocol.specs.declared.Parameters.{Parameters}
 use Rattle.protocol.specs.Answers.{Answer, done, refused}
 use Rattle.protocol.specs.Record.{parametersOf}
-use Rattle.protocol.specs.Judging.{found, ballotFaults}
+use Rattle.protocol.specs.Judging.{found, foundWith, ballotFaults}
 use Rattle.protocol.specs.Results.{receiptRefusal, receiptAmong, receiptChecked}
 use Rattle.protocol.proofs.Answered.{refused-is, done-is}
 use Rattle.results.proofs.Reaching.{headFault}
 
 module _ (r printed : List ℕ) where
   head-numbered : Numbered (headFault r)
-  unfolding ballotFaults found
+  unfolding ballotFaults foundWith
   head-numbered = search numbered depth 12
 
   pub receipt-short : length printed ≢ 32 → refused 18 ≡ receiptChecked r printed

@@ -5,7 +5,7 @@ ghost use lib.ListN.{length};
 ghost use Rattle.laws.specs.Lent.{before, after};
 ghost use Rattle.laws.specs.Tests.{equal, differ, _or_};
 ghost use Rattle.protocol.specs.Terms.{item};
-ghost use Rattle.protocol.specs.Inputs.{afterwards};
+ghost use Rattle.protocol.specs.Refusals.{afterwards};
 ghost use Rattle.protocol.specs.Answers.{tallyAnswer};
 ghost use Rattle.protocol.specs.Results.{distinctVotes, voteCounts, tallyRefusal, tallied, inFront};
 ghost use Rattle.results.specs.Tallies.{TallyReady};

@@ -5,7 +5,7 @@ ghost use mathlib.Core.Path.{_≡_};
 ghost use lib.ListN.{length};
 ghost use Rattle.laws.specs.Lent.{before, after};
 ghost use Rattle.protocol.specs.Answers.{answerOf, writtenAnswer};
-ghost use Rattle.protocol.specs.Inputs.{afterwards};
+ghost use Rattle.protocol.specs.Refusals.{afterwards};
 ghost use Rattle.protocol.specs.Judging.{firstFault};
 ghost use Rattle.protocol.specs.Results.{announcedVotes, announcedRefusal};
 ghost use Rattle.results.specs.Ready.{VotesReady};

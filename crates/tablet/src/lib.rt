@@ -6,7 +6,7 @@ ghost use Rattle.laws.specs.Lent.{before, after};
 ghost use Rattle.protocol.specs.Tablet as tablets;
 ghost use Rattle.protocol.specs.Tablet.{tabletCommand, tabletRefusal};
 ghost use Rattle.protocol.specs.Answers.{writtenAnswer, answerOf};
-ghost use Rattle.protocol.specs.Inputs.{afterwards};
+ghost use Rattle.protocol.specs.Refusals.{afterwards};
 ghost use Rattle.tablet.specs.Ready.{CastReady};
 use protocol::Form;
 use protocol::Parameters;

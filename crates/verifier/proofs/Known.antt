@@ -22,7 +22,7 @@ use Rattle.protocol.specs.Layout.{width, lists, atEntry, atFirstDice, atLink, a
 use Rattle.protocol.specs.Record.{parametersOf, maskOf, linkPlace, positionOf, shiftOf, sideOf, ballotOpeningOf, voteOf, fullOpeningOf}
 use Rattle.protocol.specs.Drawing.{challenge}
 use Rattle.protocol.specs.Rules.{numbersBelow, placeOf, rules as rulesOf, fault}
-use Rattle.protocol.specs.Judging.{found, ifCompared, entryFaults, linkFaults, voteFaults, partOneFaults, partTwoFaults}
+use Rattle.protocol.specs.Judging.{found, foundWith, ifCompared, entryFaults, linkFaults, voteFaults, partOneFaults, partTwoFaults}
 use Rattle.protocol.proofs.Lengths.{entry-next, entry-list-end, entries-end, first-dice-next, link-next, link-list-end, links-end}
 use Rattle.protocol.proofs.Tested.{fault-iff, first-tests, first-dice-tests, link-tests, ballot-half-tests, vote-tests, full-tests}
 use Rattle.challenge.specs.Text.{absorb-more}
@@ -54,7 +54,7 @@ module _ (drawn : Bool) (p : Parameters) (r : List ℕ) where
 
   pub links-stand : first (λ l. ifCompared p r l (linkFaults drawn p r l)) (lists p) ≡ Nothing
       → (l : ℕ) → l < lists p → bit (maskOf p r) l ≡ 1 → (j : ℕ) → j < p .ballots → fault p r drawn (Link l j) ≡ 0
-  unfolding ifCompared linkFaults found
+  unfolding ifCompared linkFaults foundWith
   links-stand e l ll b j lj = let t = simp rules at e in t l ll (λ z. omega arith) j lj
 
   pub link-position : (l j : ℕ) → fault p r drawn (Link l j) ≡ 0 → positionOf p r l j < p .ballots
@@ -87,12 +87,12 @@ module _ (drawn : Bool) (p : Parameters) (r : List ℕ) where
   half-numbers j e = below-true (ballotOpeningOf p r j) 3 (ballot-half-tests drawn p r j .0 (stands-rules drawn p r (BallotHalf j) e) .1 .0)
 
   pub votes-rise : voteFaults drawn p r (p .ballots) ≡ Nothing → (i : ℕ) → suc i < p .ballots → voteOf p r i ≤ voteOf p r (suc i)
-  unfolding voteFaults found
+  unfolding voteFaults foundWith
   votes-rise e i h = let t = simp rules at e in vote-tests drawn p r (suc i) .0 (stands-rules drawn p r (Vote (suc i)) (t (suc i) h)) .1 .1 i refl
 
   pub full-numbers : (l i : ℕ) → first (λ i. found drawn p r (FullOpening l i)) i ≡ Nothing
       → (k : ℕ) → k < i → numbersBelow (p .modulus) (fullOpeningOf p r l k) 6 ≡ true
-  unfolding found
+  unfolding foundWith
   full-numbers l i e k h =
       let t = simp rules at e in
       below-true (fullOpeningOf p r l k) 6 (full-tests drawn p r l k .0 (stands-rules drawn p r (FullOpening l k) (t k h)) .1 .1 .0)
@@ -136,7 +136,7 @@ module _ (drawn : Bool) (p : Parameters) (r : List ℕ) where
   -- ---- part one
 
   pub part-one-reaches : partOneFaults drawn p r ≡ Nothing → 1 ≤ p .ballots → 1 ≤ p .compared → atFirstDice p ≤ length r
-  unfolding partOneFaults entryFaults found
+  unfolding partOneFaults entryFaults foundWith
   part-one-reaches e n m =
       let l = lists p - 1 in
       let i = p .ballots - 1 in

@@ -13,13 +13,13 @@ use Rattle.protocol.specs.declared.Parameters.{Parameters}
 use Rattle.protocol.specs.declared.Due.{Due}
 use Rattle.protocol.specs.Record.{maskOf}
 use Rattle.protocol.specs.Rules.{placeOf, fault}
-use Rattle.protocol.specs.Judging.{found, ifCompared, ifOpened}
+use Rattle.protocol.specs.Judging.{found, foundWith, ifCompared, ifOpened}
 
 -- ---- one command
 
 module _ (drawn : Bool) (p : Parameters) (r : List ℕ) (d : Due) where
   pub found-nothing : (found drawn p r d ≡ Nothing) ↔ (fault p r drawn d ≡ 0)
-  unfolding found
+  unfolding foundWith
   found-nothing = located-nothing (placeOf p r d) (fault p r drawn d)
 
 -- ---- a list by its bit of the mask

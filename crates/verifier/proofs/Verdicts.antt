@@ -12,15 +12,15 @@ use Rattle.protocol.specs.declared.Verdict.the-variants.{Accepted, Refused}
 use Rattle.protocol.specs.Answers.{answerOf, verdictAnswer}
 use Rattle.protocol.specs.Layout.{firstCode}
 use Rattle.protocol.specs.Record.{formOf, parametersOf}
-use Rattle.protocol.specs.Rules.{fault}
-use Rattle.protocol.specs.Judging.{found, ballotFaults, partOneFaults, partTwoFaults, partThreeFaults, firstFault, judged}
+use Rattle.protocol.specs.Rules.{fault, faultWith}
+use Rattle.protocol.specs.Judging.{found, foundWith, ballotFaults, partOneFaults, partTwoFaults, partThreeFaults, firstFault, judged}
 use Rattle.protocol.proofs.Faultless.{accepted-nothing}
 use Rattle.protocol.proofs.Forms.{code-width}
 
 -- the first command's rule is the same for all parameters in whose form it has the byte of the record's own
 pub first-alike : (drawn : Bool) (p : Parameters) (r : List ℕ) → firstCode (p .form) ≡ firstCode (formOf r)
     → found drawn p r First ≡ found drawn (parametersOf r) r First
-unfolding found fault parametersOf
+unfolding foundWith faultWith parametersOf
 first-alike drawn p r e = rw (e, code-width (p .form) (formOf r) e)
 
 -- ---- parameters that are the record's

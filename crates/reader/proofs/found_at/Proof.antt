@@ -2,16 +2,16 @@
 use mathlib.Core.Path.{sym, ap₂, _∙_}
 use borrow.Author.Needs.{needs}
 use Rattle.laws.specs.Faults.{located, located-at, located-nothing}
-use Rattle.protocol.specs.Judging.{found}
+use Rattle.protocol.specs.Judging.{found, foundWith}
 use Rattle.reader.proofs.found_at.Statement.{statement}
 use Rattle.reader.proofs.found_at.Tie as tie
 
 returns : tie.Need-returns
-unfolding found
+unfolding foundWith
 returns c = located-at _ _ (c .if1 .taken) ∙ ap₂ located (c .before .before .before .before .before .pre .0) (c .before .step .ensures)
 
 returns-2 : tie.Need-returns-2
-unfolding found
+unfolding foundWith
 returns-2 c = sym (located-nothing _ _ .1 (sym (c .before .step .ensures) ∙ c .if1 .left))
 
 pub found-at-spec : {M : Type 1} → statement M

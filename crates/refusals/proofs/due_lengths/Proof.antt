@@ -5,7 +5,7 @@ use native.Mathlib.Omega.{arith}
 use borrow.Author.Needs.{needs}
 use Rattle.protocol.specs.Terms.{mostBallots}
 use Rattle.laws.specs.Tests.{is-equal, not-equal, and-go, and-stop}
-use Rattle.protocol.specs.Inputs.{dueLengths}
+use Rattle.protocol.specs.Refusals.{dueLengths}
 use Rattle.refusals.proofs.Tests.{long}
 use Rattle.refusals.proofs.due_lengths.Statement.{statement}
 use Rattle.refusals.proofs.due_lengths.Tie as tie

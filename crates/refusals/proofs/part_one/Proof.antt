@@ -5,7 +5,7 @@ use native.Mathlib.Omega.{arith}
 use borrow.Author.Needs.{needs}
 use Rattle.laws.specs.Tests.{is-equal, not-equal, held, failed}
 use Rattle.protocol.specs.Terms.{inLimits}
-use Rattle.protocol.specs.Inputs.{partOneRefusal}
+use Rattle.protocol.specs.Refusals.{partOneRefusal}
 use Rattle.layout.specs.Bounds.{Few}
 use Rattle.refusals.proofs.Tests.{limits-few, outside, undue, due}
 use Rattle.refusals.proofs.part_one.Statement.{statement}

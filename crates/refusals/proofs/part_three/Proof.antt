@@ -7,7 +7,7 @@ use borrow.Author.Needs.{needs}
 use Rattle.laws.specs.Tests.{equal, _and_, equal-iff, and-iff, equal-is, held, failed}
 use Rattle.protocol.specs.Terms.{inLimits}
 use Rattle.protocol.specs.Layout.{partThreeLength}
-use Rattle.protocol.specs.Inputs.{partThreeRefusal}
+use Rattle.protocol.specs.Refusals.{partThreeRefusal}
 use Rattle.layout.specs.Bounds.{Few}
 use Rattle.refusals.proofs.Tests.{limits-few, long, pair, thirty, outside, undue, due, fair-whole, binary-is}
 use Rattle.refusals.proofs.part_three.Statement.{statement}

@@ -7,7 +7,7 @@ use borrow.Author.Needs.{needs}
 use Rattle.laws.specs.Tests.{equal, _and_, equal-is, held, failed}
 use Rattle.protocol.specs.Terms.{inLimits}
 use Rattle.protocol.specs.Layout.{partTwoLength}
-use Rattle.protocol.specs.Inputs.{partTwoRefusal}
+use Rattle.protocol.specs.Refusals.{partTwoRefusal}
 use Rattle.layout.specs.Bounds.{Few}
 use Rattle.refusals.proofs.Tests.{limits-few, long, pair, thirty, outside, undue, due, fair-whole}
 use Rattle.refusals.proofs.part_two.Statement.{statement}

@@ -6,7 +6,8 @@ use borrow.Author.Tests.{not-true, not-false}
 use Rattle.laws.specs.Tests.{_and_, and-iff, and-stop, and-go, held, failed}
 use Rattle.laws.specs.Faults.{rule-go, rule-stop}
 use Rattle.protocol.specs.Terms.{allBelow}
-use Rattle.protocol.specs.Inputs.{Slices, given, dueLengths, idsRise}
+use Rattle.protocol.specs.Inputs.{Slices, given}
+use Rattle.protocol.specs.Refusals.{dueLengths, idsRise}
 use Rattle.refusals.specs.Contents.{contentsRefusal}
 use Rattle.refusals.proofs.Tests.{lengths-are}
 use Rattle.refusals.proofs.Contents.{rising-is, permutations-in}
