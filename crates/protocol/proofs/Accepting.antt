@@ -1,5 +1,5 @@
 -- What judging accepts is exactly what stands; as drawn, what stands and is drawn.
-use mathlib.Core.Path.{_≡_, refl, _∙_}
+use mathlib.Core.Path.{_≡_, refl, sym, _∙_}
 use mathlib.Core.Logic.{_↔_, _≢_}
 use mathlib.Core.Bool.{Bool, true, false}
 use mathlib.Core.List.{List}
@@ -17,10 +17,10 @@ use Rattle.protocol.specs.Terms.{item}
 use Rattle.protocol.specs.Layout.{code, width, lists, atEnd, recordLength}
 use Rattle.protocol.specs.Record.{parametersOf, maskOf, positionOf, shiftOf, sideOf, boardOf, comparisonOf, disclosureOf}
 use Rattle.protocol.specs.Rules.{ballotRules, rules as rulesOf, placeOf, fault}
-use Rattle.protocol.specs.Judging.{judged}
+use Rattle.protocol.specs.Judging.{judgedBallots, partOneFaults, firstFault, judged, firstFaultWith, judgedWith}
 use Rattle.protocol.specs.Stands.{Laid, Valid, Original, Stands, Drawn}
 use Rattle.protocol.proofs.Lengths.{record-length}
-use Rattle.protocol.proofs.Within.{Shaped, stands-shaped, first-within, ballot-within, entry-within, first-dice-within, link-within, second-dice-within, ballot-half-within, list-half-within, vote-within, full-within, end-within}
+use Rattle.protocol.proofs.Within.{Shaped, laid-shaped, first-within, ballot-within, entry-within, first-dice-within, link-within, second-dice-within, ballot-half-within, list-half-within, vote-within, full-within, end-within}
 use Rattle.protocol.proofs.Faultless.{Faultless, accepted-iff}
 use Rattle.protocol.proofs.Tested.{fault-with-iff, fault-iff, first-tests, ballot-tests, entry-tests, first-dice-tests, link-tests, second-dice-tests, ballot-half-tests, list-half-tests, vote-tests, full-tests}
 
@@ -40,12 +40,12 @@ last-next n h = omega arith
 
 -- ---- nothing is found: the record stands
 
-module _ (drawn : Bool) (r : List ℕ) (k : Faultless drawn (parametersOf r) r) where
+module _ (copies drawn : Bool) (r : List ℕ) (k : Faultless copies drawn (parametersOf r) r) where
   kept : (d : Due) → fault (parametersOf r) r drawn d ≡ 0 → rulesOf (parametersOf r) r drawn d ≡ 0
   kept d e = fault-iff drawn (parametersOf r) r d .0 e .1 .1
 
-  ballot-kept : (j : ℕ) → j < parametersOf r .ballots → ballotRules (parametersOf r) r true j ≡ 0
-  ballot-kept j lj = fault-with-iff drawn (parametersOf r) r true (Ballot j) .0 (k .ballots j lj) .1 .1
+  ballot-kept : (j : ℕ) → j < parametersOf r .ballots → ballotRules (parametersOf r) r copies j ≡ 0
+  ballot-kept j lj = fault-with-iff drawn (parametersOf r) r copies (Ballot j) .0 (k .ballots j lj) .1 .1
 
   link-kept : (l j : ℕ) → l < lists (parametersOf r) → bit (maskOf (parametersOf r) r) l ≡ 1 → j < parametersOf r .ballots
       → rulesOf (parametersOf r) r drawn (Link l j) ≡ 0
@@ -76,7 +76,7 @@ module _ (drawn : Bool) (r : List ℕ) (k : Faultless drawn (parametersOf r) r) 
             let e : length r ≡ recordLength p = omega arith in
             e ∙ record-length p;
         first = fault-iff drawn p r First .0 (k .first) .0;
-        ballots = λ j lj. fault-with-iff drawn p r true (Ballot j) .0 (k .ballots j lj) .0;
+        ballots = λ j lj. fault-with-iff drawn p r copies (Ballot j) .0 (k .ballots j lj) .0;
         entries = λ l i ll li. let h = fault-iff drawn p r (Entry l i) .0 (k .entries l ll i li) in (h .0, entry-tests drawn p r l i .0 (h .1 .1));
         first-dice = fault-iff drawn p r FirstDice .0 (k .first-dice) .0;
         links = λ l j ll b lj.
@@ -111,7 +111,7 @@ module _ (drawn : Bool) (r : List ℕ) (k : Faultless drawn (parametersOf r) r) 
         ballots-high = limits .1 .0 .1;
         compared-low = limits .1 .1 .0;
         compared-high = limits .1 .1 .1;
-        ids-rise = λ j lj. ballot-tests drawn p r true (suc j) .0 (ballot-kept (suc j) lj) .0 j refl;
+        ids-rise = λ j lj. ballot-tests drawn p r copies (suc j) .0 (ballot-kept (suc j) lj) .0 j refl;
         first-fair = dice .0;
         mask-ones = dice .1 .0 .0;
         mask-bits = bits-iff (lists p) (maskOf p r) .0 (dice .1 .0 .1);
@@ -132,8 +132,8 @@ module _ (drawn : Bool) (r : List ℕ) (k : Faultless drawn (parametersOf r) r) 
         values = λ l ll b. full-tests drawn p r l (p .ballots - 1) .0 (full-kept l (p .ballots - 1) ll b (last (p .ballots) (limits .1 .0 .0))) .1 .1 .1 .1 (last-next (p .ballots) (limits .1 .0 .0));
       }
 
-  original : Original (boardOf r)
-  original = record { apart = λ i j s t li lj ls lt. ballot-tests drawn (parametersOf r) r true j .0 (ballot-kept j lj) .1 refl i li s ls t lt }
+  original : copies ≡ true → Original (boardOf r)
+  original e = record { apart = λ i j s t li lj ls lt. ballot-tests drawn (parametersOf r) r copies j .0 (ballot-kept j lj) .1 e i li s ls t lt }
 
   are-drawn : drawn ≡ true → Drawn (parametersOf r) r
   are-drawn e =
@@ -149,14 +149,15 @@ module _ (drawn : Bool) (r : List ℕ) (k : Faultless drawn (parametersOf r) r) 
 apart-before : {n : ℕ} {f : ℕ → ℕ} → Perm n f → (j : ℕ) → j < n → (i : ℕ) → i < j → f i ≢ f j
 apart-before h j lj i li e = let z : i ≡ j = h .apart i j (omega arith) lj e in omega arith
 
-module _ (drawn : Bool) (r : List ℕ) (s : Stands r) (are : drawn ≡ true → Drawn (parametersOf r) r) where
+module _ (copies drawn : Bool) (r : List ℕ) (due : Laid (parametersOf r) r) (v : Valid (boardOf r) (comparisonOf r) (disclosureOf r))
+    (originals : copies ≡ true → Original (boardOf r)) (are : drawn ≡ true → Drawn (parametersOf r) r) where
   -- a command that stands where it is due and lies inside of the record
   faultless-at : (d : Due) → item r (placeOf (parametersOf r) r d) ≡ code (parametersOf r) d → placeOf (parametersOf r) r d + width (parametersOf r) d ≤ length r
       → rulesOf (parametersOf r) r drawn d ≡ 0 → fault (parametersOf r) r drawn d ≡ 0
   faultless-at d byte whole ok = fault-iff drawn (parametersOf r) r d .1 (byte, (whole, ok))
 
   shaped : Shaped (parametersOf r) r
-  shaped = stands-shaped s
+  shaped = laid-shaped due v
 
   set-at : (l : ℕ) → bit (maskOf (parametersOf r) r) l ≢ 0 → bit (maskOf (parametersOf r) r) l ≡ 1
   set-at l = differs-set (bit (maskOf (parametersOf r) r) l) (bit-small (maskOf (parametersOf r) r) l)
@@ -164,24 +165,22 @@ module _ (drawn : Bool) (r : List ℕ) (s : Stands r) (are : drawn ≡ true → 
   link-ok : (l j : ℕ) → l < lists (parametersOf r) → bit (maskOf (parametersOf r) r) l ≡ 1 → j < parametersOf r .ballots → fault (parametersOf r) r drawn (Link l j) ≡ 0
   link-ok l j ll b lj =
       let p = parametersOf r in
-      let t = s .laid .links l j ll b lj in
-      let h = s .valid .positions l ll b in
+      let t = due .links l j ll b lj in
+      let h = v .positions l ll b in
       faultless-at (Link l j) (t .0) (link-within shaped l j ll b lj)
-      (link-tests drawn p r l j .1 (t .1 .0, (t .1 .1, (h .below j lj, (apart-before h j lj, s .valid .shifts l j ll b lj)))))
+      (link-tests drawn p r l j .1 (t .1 .0, (t .1 .1, (h .below j lj, (apart-before h j lj, v .shifts l j ll b lj)))))
 
   ballot-half-ok : (j : ℕ) → j < parametersOf r .ballots → fault (parametersOf r) r drawn (BallotHalf j) ≡ 0
   ballot-half-ok j lj =
       let p = parametersOf r in
-      let t = s .laid .ballot-halves j lj in
-      let v = s .valid in
+      let t = due .ballot-halves j lj in
       faultless-at (BallotHalf j) (t .0) (ballot-half-within shaped j lj)
       (ballot-half-tests drawn p r j .1 (t .1, (λ c lc. v .ballot-numbers j c lj lc, (v .sides j lj, (λ e. are e .sides j lj, λ c lc. v .ballot-opens j c lj lc)))))
 
   list-half-ok : (l j : ℕ) → l < lists (parametersOf r) → bit (maskOf (parametersOf r) r) l ≡ 1 → j < parametersOf r .ballots → fault (parametersOf r) r drawn (ListHalf l j) ≡ 0
   list-half-ok l j ll b lj =
       let p = parametersOf r in
-      let t = s .laid .list-halves l j ll b lj in
-      let v = s .valid in
+      let t = due .list-halves l j ll b lj in
       faultless-at (ListHalf l j) (t .0) (list-half-within shaped l j ll b lj)
       (list-half-tests drawn p r l j (v .sides j lj) (v .shifts l j ll b lj) .1 (
         t .1 .0,
@@ -197,65 +196,77 @@ module _ (drawn : Bool) (r : List ℕ) (s : Stands r) (are : drawn ≡ true → 
   vote-ok : (i : ℕ) → i < parametersOf r .ballots → fault (parametersOf r) r drawn (Vote i) ≡ 0
   vote-ok i li =
       let p = parametersOf r in
-      let t = s .laid .votes i li in
-      let v = s .valid in
+      let t = due .votes i li in
       faultless-at (Vote i) (t .0) (vote-within shaped i li)
       (vote-tests drawn p r i .1 (t .1, (v .votes-below i li, λ h e. rw (← e) (v .votes-rise h (rw (← e) at li)))))
 
   full-ok : (l i : ℕ) → l < lists (parametersOf r) → bit (maskOf (parametersOf r) r) l ≡ 0 → i < parametersOf r .ballots → fault (parametersOf r) r drawn (FullOpening l i) ≡ 0
   full-ok l i ll b li =
       let p = parametersOf r in
-      let t = s .laid .full-openings l i ll b li in
-      let v = s .valid in
+      let t = due .full-openings l i ll b li in
       faultless-at (FullOpening l i) (t .0) (full-within shaped l i ll b li)
       (full-tests drawn p r l i .1
       (t .1 .0, (t .1 .1, (λ q lq. v .full-numbers l i q ll b li lq, (λ q lq. v .full-opens l i q ll b li lq, λ e. v .values l ll b)))))
 
-  faultless : Faultless drawn (parametersOf r) r
+  faultless : Faultless copies drawn (parametersOf r) r
   faultless =
       let p = parametersOf r in
-      let v = s .valid in
       record {
         first =
-            faultless-at First (s .laid .first) (omega (arith, first-within shaped))
+            faultless-at First (due .first) (omega (arith, first-within shaped))
             (first-tests drawn p r .1 ((v .modulus-low, v .modulus-high), ((v .ballots-low, v .ballots-high), (v .compared-low, v .compared-high))));
         ballots = λ j lj.
-            fault-with-iff drawn p r true (Ballot j) .1 (
-              s .laid .ballots j lj,
+            fault-with-iff drawn p r copies (Ballot j) .1 (
+              due .ballots j lj,
               (
                 ballot-within shaped j lj,
-                ballot-tests drawn p r true j .1 (
+                ballot-tests drawn p r copies j .1 (
                   λ i e. rw (← e) (v .ids-rise i (rw (← e) at lj)),
-                  λ e i li a la b lb. s .original .apart i j a b li lj la lb,
+                  λ e i li a la b lb. originals e .apart i j a b li lj la lb,
                 ),
               ),
             );
         entries = λ l ll i li.
-            faultless-at (Entry l i) (s .laid .entries l i ll li .0) (entry-within shaped l i ll li)
-            (entry-tests drawn p r l i .1 (s .laid .entries l i ll li .1));
+            faultless-at (Entry l i) (due .entries l i ll li .0) (entry-within shaped l i ll li)
+            (entry-tests drawn p r l i .1 (due .entries l i ll li .1));
         first-dice =
-            faultless-at FirstDice (s .laid .first-dice) (first-dice-within shaped)
+            faultless-at FirstDice (due .first-dice) (first-dice-within shaped)
             (first-dice-tests drawn p r .1 (v .first-fair, ((v .mask-ones, shaped .mask-below), λ e. are e .mask)));
         links = λ l ll b j lj. link-ok l j ll (set-at l b) lj;
         second-dice =
-            faultless-at SecondDice (s .laid .second-dice) (second-dice-within shaped) (second-dice-tests drawn p r .1 (v .second-fair));
+            faultless-at SecondDice (due .second-dice) (second-dice-within shaped) (second-dice-tests drawn p r .1 (v .second-fair));
         halves = λ j lj. (ballot-half-ok j lj, λ l ll b. list-half-ok l j ll (set-at l b) lj);
         votes = vote-ok;
         full-openings = λ l ll b i li. full-ok l i ll b li;
-        end = faultless-at End (s .laid .end) (end-within shaped) refl;
+        end = faultless-at End (due .end) (end-within shaped) refl;
         trailing = le-of-eq (shaped .long);
       }
 
 -- ---- both ways
 
+-- with or without rule 21
+pub accepts-with-iff : (copies : Bool) (r : List ℕ)
+    → (judgedWith copies false r ≡ accepted) ↔ (Laid (parametersOf r) r × (Valid (boardOf r) (comparisonOf r) (disclosureOf r) × (copies ≡ true → Original (boardOf r))))
+accepts-with-iff copies r = (
+  λ e. let k = accepted-iff copies false r .0 e in (laid copies false r k, (valid copies false r k, original copies false r k)),
+  λ s. accepted-iff copies false r .1 (faultless copies false r (s .0) (s .1 .0) (s .1 .1) (λ e. absurd (never e refl))),
+)
+
+-- the judge asks for it
+pub judged-with : (drawn : Bool) (r : List ℕ) → judged drawn r ≡ judgedWith true drawn r
+unfolding judged judgedWith firstFault firstFaultWith partOneFaults judgedBallots
+judged-with drawn r = refl
+
 pub accepts-iff : (r : List ℕ) → (judged false r ≡ accepted) ↔ Stands r
 accepts-iff r = (
-  λ e. let k = accepted-iff false r .0 e in record { laid = laid false r k; valid = valid false r k; original = original false r k },
-  λ s. accepted-iff false r .1 (faultless false r s (λ e. absurd (never e refl))),
+  λ e. let t = accepts-with-iff true r .0 (sym (judged-with false r) ∙ e) in record { laid = t .0; valid = t .1 .0; original = t .1 .1 refl },
+  λ s. judged-with false r ∙ accepts-with-iff true r .1 (s .laid, (s .valid, λ e. s .original)),
 )
 
 pub accepts-drawn-iff : (r : List ℕ) → (judged true r ≡ accepted) ↔ (Stands r × Drawn (parametersOf r) r)
 accepts-drawn-iff r = (
-  λ e. let k = accepted-iff true r .0 e in (record { laid = laid true r k; valid = valid true r k; original = original true r k }, are-drawn true r k refl),
-  λ t. accepted-iff true r .1 (faultless true r (t .0) (λ e. t .1)),
+  λ e.
+      let k = accepted-iff true true r .0 (sym (judged-with true r) ∙ e) in
+      (record { laid = laid true true r k; valid = valid true true r k; original = original true true r k refl }, are-drawn true true r k refl),
+  λ t. judged-with true r ∙ accepted-iff true true r .1 (faultless true true r (t .0 .laid) (t .0 .valid) (λ e. t .0 .original) (λ e. t .1)),
 )

@@ -3,14 +3,14 @@
 use mathlib.Core.Path.{_≡_, refl, sym, ap, ap₂, _∙_}
 use mathlib.Core.Bool.{true, false}
 use mathlib.Core.List.{List, _++_}
-use Prim.Native.Nat.{ℕ, _+_}
+use Prim.Native.Nat.{ℕ, _+_, _<_}
 use lib.ListN.{length}
 use Rattle.laws.specs.Faults.{rules}
 use Rattle.laws.specs.Sorting.{sort, length-sort}
 use Rattle.laws.specs.Tables.{tabulate, tabulate-of}
 use Rattle.protocol.specs.Answers.{accepted}
 use Rattle.protocol.specs.Terms.{item}
-use Rattle.protocol.specs.Record.{parametersOf, Board, Comparison, Disclosure, encoding}
+use Rattle.protocol.specs.Record.{parametersOf, ballotCommitmentOf, Board, Comparison, Disclosure, boardOf, comparisonOf, disclosureOf, encoding}
 use Rattle.protocol.specs.Drawing.{challenge, drawnMask, drawnSide}
 use Rattle.protocol.specs.Rules.{fairDice, rightShape}
 use Rattle.protocol.specs.Judging.{judged}
@@ -18,7 +18,7 @@ use Rattle.protocol.specs.Inputs.{Slices, inputsOf}
 use Rattle.protocol.specs.Refusals.{binarySides, partOneRefusal, partTwoRefusal, partTwoDrawnRefusal, partThreeRefusal, partThreeDrawnRefusal}
 use Rattle.protocol.specs.Servers.{announced, postedBoard, postedComparison, postedDisclosure, firstPart, secondPart, maskFor, thirdPart, sidesFor}
 use Rattle.protocol.specs.Results.{announcedVotes}
-use Rattle.protocol.specs.Stands.{Original, Stands, Drawn}
+use Rattle.protocol.specs.Stands.{Laid, Valid, Original, Stands, Drawn}
 use Rattle.protocol.specs.Election.{Choice, chosen, drawn, maskBy, sidesBy, secondRefusal, thirdRefusal, electionMask, electionTwo, electionSides, electionThree, electionRecord, electionRefusal}
 use Rattle.protocol.proofs.Fitting.{Fits}
 use Rattle.protocol.proofs.Goodness.{FourBytes, Good}
@@ -27,8 +27,8 @@ use Rattle.protocol.proofs.Unrefused as unrefusing
 use Rattle.protocol.proofs.Unrefused.{unrefused, good-inputs}
 use Rattle.protocol.proofs.Drawing.{drawn-mask, drawn-sides, item-drawn}
 use Rattle.protocol.proofs.Whole.{election-iff}
-use Rattle.protocol.proofs.Reading.{read-parameters, read-first-dice, read-mask, read-second-dice, read-side}
-use Rattle.protocol.proofs.Standing.{stands, before-first-dice, before-second-dice, announces}
+use Rattle.protocol.proofs.Reading.{read-parameters, read-ballot-commitment, read-first-dice, read-mask, read-second-dice, read-side}
+use Rattle.protocol.proofs.Standing.{stands-laid, stands-valid, stands, before-first-dice, before-second-dice, announces}
 use Rattle.protocol.proofs.Accepting.{accepts-iff, accepts-drawn-iff}
 
 -- dice, mask and sides that the three calls take
@@ -69,7 +69,18 @@ module _ (s : Slices) (g : Good (inputsOf s)) (dice₁ : List ℕ) (mask : ℕ) 
   unfolding board comparison disclosure
   written-stands o = rw is-encoding (stands board comparison disclosure fits (honest-valid (inputsOf s) g choice) o)
 
-  written-parameters : parametersOf (written s dice₁ mask dice₂ sides) ≡ s .parameters
+  -- all but rule 21, which rests on the commitments being different
+  pub written-laid : Laid (parametersOf (written s dice₁ mask dice₂ sides)) (written s dice₁ mask dice₂ sides)
+      × Valid (boardOf (written s dice₁ mask dice₂ sides)) (comparisonOf (written s dice₁ mask dice₂ sides)) (disclosureOf (written s dice₁ mask dice₂ sides))
+  unfolding board comparison disclosure
+  written-laid = rw is-encoding (stands-laid board comparison disclosure fits, stands-valid board comparison disclosure fits (honest-valid (inputsOf s) g choice))
+
+  pub written-commitment : (j q : ℕ) → j < s .parameters .ballots → q < 6
+      → ballotCommitmentOf (parametersOf (written s dice₁ mask dice₂ sides)) (written s dice₁ mask dice₂ sides) j q ≡ postedBoard (inputsOf s) .ballotCommitment j q
+  unfolding board postedBoard inputsOf
+  written-commitment j q lj lq = rw (is-encoding, read-parameters board comparison disclosure fits) (read-ballot-commitment board comparison disclosure fits j q lj lq)
+
+  pub written-parameters : parametersOf (written s dice₁ mask dice₂ sides) ≡ s .parameters
   unfolding board postedBoard inputsOf
   written-parameters = ap parametersOf is-encoding ∙ read-parameters board comparison disclosure fits
 

@@ -1,7 +1,7 @@
--- A record is accepted exactly if no command of it has a fault.
+-- A record is accepted exactly if no command of it has a fault, be rule 21 asked for or not.
 use mathlib.Core.Path.{_≡_, refl, ap}
 use mathlib.Core.Logic.{_↔_, _≢_}
-use mathlib.Core.Bool.{Bool, true}
+use mathlib.Core.Bool.{Bool}
 use mathlib.Core.List.{List, []}
 use Prim.Native.Nat.{ℕ, zero, suc, _≤_, _<_}
 use native.Mathlib.Omega.{arith}
@@ -15,12 +15,12 @@ use Rattle.protocol.specs.Answers.{answerOf, accepted}
 use Rattle.protocol.specs.Layout.{lists, recordLength}
 use Rattle.protocol.specs.Record.{parametersOf, maskOf}
 use Rattle.protocol.specs.Rules.{faultWith, fault}
-use Rattle.protocol.specs.Judging.{found, foundWith, ifCompared, ifOpened, judgedBallots, entryFaults, linkFaults, listHalfFaults, halfFaults, voteFaults, fullFaults, trailingFault, partOneFaults, partTwoFaults, partThreeFaults, firstFault, judged}
+use Rattle.protocol.specs.Judging.{found, foundWith, ifCompared, ifOpened, entryFaults, linkFaults, listHalfFaults, halfFaults, voteFaults, fullFaults, trailingFault, partTwoFaults, partThreeFaults, firstFaultWith, judgedWith}
 
 -- no command has a fault, and no byte follows the last
-pub record Faultless (drawn : Bool) (p : Parameters) (r : List ℕ) : Type 0 where
+pub record Faultless (copies drawn : Bool) (p : Parameters) (r : List ℕ) : Type 0 where
   pub first : fault p r drawn First ≡ 0
-  pub ballots : (j : ℕ) → j < p .ballots → faultWith p r true drawn (Ballot j) ≡ 0
+  pub ballots : (j : ℕ) → j < p .ballots → faultWith p r copies drawn (Ballot j) ≡ 0
   pub entries : (l : ℕ) → l < lists p → (i : ℕ) → i < p .ballots → fault p r drawn (Entry l i) ≡ 0
   pub first-dice : fault p r drawn FirstDice ≡ 0
   pub links : (l : ℕ) → l < lists p → bit (maskOf p r) l ≢ 0 → (j : ℕ) → j < p .ballots → fault p r drawn (Link l j) ≡ 0
@@ -31,9 +31,9 @@ pub record Faultless (drawn : Bool) (p : Parameters) (r : List ℕ) : Type 0 whe
   pub end : fault p r drawn End ≡ 0
   pub trailing : length r ≤ recordLength p
 
-module _ (drawn : Bool) (r : List ℕ) where
-  pub faultless-iff : (firstFault drawn r ≡ Nothing) ↔ Faultless drawn (parametersOf r) r
-  unfolding firstFault partOneFaults partTwoFaults partThreeFaults judgedBallots entryFaults linkFaults listHalfFaults halfFaults voteFaults fullFaults trailingFault ifCompared ifOpened foundWith
+module _ (copies drawn : Bool) (r : List ℕ) where
+  pub faultless-iff : (firstFaultWith copies drawn r ≡ Nothing) ↔ Faultless copies drawn (parametersOf r) r
+  unfolding firstFaultWith partTwoFaults partThreeFaults entryFaults linkFaults listHalfFaults halfFaults voteFaults fullFaults trailingFault ifCompared ifOpened foundWith
   faultless-iff = (
     λ e. let h = simp rules at e in record {
       first = h .0;
@@ -54,8 +54,8 @@ module _ (drawn : Bool) (r : List ℕ) where
     ),
   )
 
-  fault-numbered : Numbered (firstFault drawn r)
-  unfolding firstFault partOneFaults partTwoFaults partThreeFaults judgedBallots entryFaults linkFaults listHalfFaults halfFaults voteFaults fullFaults trailingFault ifCompared ifOpened foundWith
+  fault-numbered : Numbered (firstFaultWith copies drawn r)
+  unfolding firstFaultWith partTwoFaults partThreeFaults entryFaults linkFaults listHalfFaults halfFaults voteFaults fullFaults trailingFault ifCompared ifOpened foundWith
   fault-numbered = search numbered depth 12
 
   none-broken : (k : ℕ) → (answerOf k [] ≡ accepted) ↔ (k ≡ 0)
@@ -63,12 +63,12 @@ module _ (drawn : Bool) (r : List ℕ) where
   none-broken zero = (λ e. refl, λ e. refl)
   none-broken (suc k) = (λ e. cc, λ e. absurd (omega arith))
 
-  pub accepted-nothing : (judged drawn r ≡ accepted) ↔ (firstFault drawn r ≡ Nothing)
-  unfolding judged numberOf
+  pub accepted-nothing : (judgedWith copies drawn r ≡ accepted) ↔ (firstFaultWith copies drawn r ≡ Nothing)
+  unfolding judgedWith numberOf
   accepted-nothing = (
-    λ e. fault-numbered .nothing (none-broken (numberOf (firstFault drawn r)) .0 e),
-    λ e. none-broken (numberOf (firstFault drawn r)) .1 (ap numberOf e),
+    λ e. fault-numbered .nothing (none-broken (numberOf (firstFaultWith copies drawn r)) .0 e),
+    λ e. none-broken (numberOf (firstFaultWith copies drawn r)) .1 (ap numberOf e),
   )
 
-  pub accepted-iff : (judged drawn r ≡ accepted) ↔ Faultless drawn (parametersOf r) r
+  pub accepted-iff : (judgedWith copies drawn r ≡ accepted) ↔ Faultless copies drawn (parametersOf r) r
   accepted-iff = (λ e. faultless-iff .0 (accepted-nothing .0 e), λ k. accepted-nothing .1 (faultless-iff .1 k))

@@ -43,3 +43,4 @@ pub mod First
 pub mod Unfitting
 pub mod Answered
 pub mod Forms
+pub mod Copies

@@ -210,8 +210,14 @@ module _ (b : Board) (k : Comparison) (d : Disclosure) (f : Fits b k d) where
     apart = λ i j s t l lj ls lt. rw (read-ballot-commitment b k d f i s (omega arith) ls, read-ballot-commitment b k d f j t lj lt) (o .apart i j s t l lj ls lt);
   }
 
+  pub stands-laid : Laid (parametersOf (encoding b k d)) (encoding b k d)
+  stands-laid = rw (read-parameters b k d f) laid
+
+  pub stands-valid : Valid b k d → Valid (boardOf (encoding b k d)) (comparisonOf (encoding b k d)) (disclosureOf (encoding b k d))
+  stands-valid = valid
+
   pub stands : Valid b k d → Original b → Stands (encoding b k d)
-  stands v o = record { laid = rw (read-parameters b k d f) laid; valid = valid v; original = original o }
+  stands v o = record { laid = stands-laid; valid = valid v; original = original o }
 
   -- ---- what comes before the dice
 

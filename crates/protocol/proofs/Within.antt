@@ -8,8 +8,8 @@ use lib.ListN.{length}
 use Rattle.laws.specs.Masks.{bit, setBefore, clearBefore, set-rank, clear-rank, bits-iff}
 use Rattle.protocol.specs.declared.Parameters.{Parameters}
 use Rattle.protocol.specs.Layout.{lists, firstWidth, atBallot, atEntry, atFirstDice, atSecondDice, atBallotHalf, atVote, atEnd, recordLength}
-use Rattle.protocol.specs.Record.{parametersOf, maskOf, linkPlace, listHalfPlace, fullPlace}
-use Rattle.protocol.specs.Stands.{Stands}
+use Rattle.protocol.specs.Record.{parametersOf, maskOf, linkPlace, listHalfPlace, fullPlace, boardOf, comparisonOf, disclosureOf}
+use Rattle.protocol.specs.Stands.{Laid, Valid, Stands}
 use Rattle.protocol.proofs.Lengths.{record-length, part-one-inside, part-two-inside, part-three-inside, first-inside, ballot-inside, entry-inside, first-dice-inside, link-inside, second-dice-inside, ballot-half-inside, list-half-inside, vote-inside, full-inside}
 
 pub record Shaped (p : Parameters) (r : List ℕ) : Type 0 where
@@ -17,12 +17,15 @@ pub record Shaped (p : Parameters) (r : List ℕ) : Type 0 where
   pub mask-ones : ones (maskOf p r) ≡ p .compared
   pub mask-below : maskOf p r < 2 ^ lists p
 
-pub stands-shaped : {r : List ℕ} → Stands r → Shaped (parametersOf r) r
-stands-shaped {r} s = record {
-  long = s .laid .long ∙ sym (record-length (parametersOf r));
-  mask-ones = s .valid .mask-ones;
-  mask-below = bits-iff (lists (parametersOf r)) (maskOf (parametersOf r) r) .1 (s .valid .mask-bits);
+pub laid-shaped : {r : List ℕ} → Laid (parametersOf r) r → Valid (boardOf r) (comparisonOf r) (disclosureOf r) → Shaped (parametersOf r) r
+laid-shaped {r} due v = record {
+  long = due .long ∙ sym (record-length (parametersOf r));
+  mask-ones = v .mask-ones;
+  mask-below = bits-iff (lists (parametersOf r)) (maskOf (parametersOf r) r) .1 (v .mask-bits);
 }
+
+pub stands-shaped : {r : List ℕ} → Stands r → Shaped (parametersOf r) r
+stands-shaped s = laid-shaped (s .laid) (s .valid)
 
 module _ {p : Parameters} {r : List ℕ} (h : Shaped p r) where
   -- a list that is compared has fewer than m such lists before it, and one that is opened too

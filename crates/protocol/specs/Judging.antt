@@ -101,6 +101,20 @@ firstFaultUpTo most drawn r = firstCommandUpTo most r then laterFaults drawn (pa
 unfoldable pub judgedUpTo : ℕ → Bool → List ℕ → Answer
 judgedUpTo most drawn r = answerOf (numberOf (firstFaultUpTo most drawn r)) []
 
+-- ---- rule 21 as a switch: document 02, item 5, "Document 01's last sample and stored boards of that kind are now refused." Only ballots
+-- know it.
+
+-- the first fault of a record, and its verdict, with or without rule 21
+unfoldable pub firstFaultWith : Bool → Bool → List ℕ → Found
+firstFaultWith copies drawn r =
+    let p = parametersOf r in
+    let ballots = first (λ j. foundWith drawn p r copies (Ballot j)) (p .ballots) in
+    found drawn p r First
+    then ((ballots then first (entryFaults drawn p r) (lists p)) then (partTwoFaults drawn p r then partThreeFaults drawn p r))
+
+unfoldable pub judgedWith : Bool → Bool → List ℕ → Answer
+judgedWith copies drawn r = answerOf (numberOf (firstFaultWith copies drawn r)) []
+
 -- ---- one form alone: the judge of document 01 knows no first command but 01
 
 -- the first fault of a record, and its verdict, where the first command is to have this form

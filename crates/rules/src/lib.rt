@@ -1,5 +1,6 @@
 // The rules of each command that need no hash of an opening: each function answers the number of the first rule broken, or 0. Every
 // one is told where its command starts, and that the whole of it is there.
+ghost use mathlib.Core.Bool.{false};
 ghost use mathlib.Core.Path.{_≡_};
 ghost use Prim.Native.Nat.{_+_, _*_, _≤_, _<_};
 ghost use lib.ListN.{length};
@@ -21,10 +22,10 @@ pub fn first_rules(bytes: &[u8]) -> u32
     0
 }
 
-// 02: an id above the one before, 5.
+// 02: an id above the one before, 5. Rule 21 needs all ballots before, and is `copies`'.
 pub fn ballot_rules(p: Parameters, bytes: &[u8], at: usize, j: usize) -> u32
     requires { ⌜ (at ≡ atBallot p j) × (at + 197 ≤ length (now bytes)) ⌝ }
-    ensures { λ k. ⌜ k ≡ ballotRules p (before bytes) j ⌝ }
+    ensures { λ k. ⌜ k ≡ ballotRules p (before bytes) false j ⌝ }
 {
     if j == 0 {
         return 0;

@@ -3,8 +3,8 @@ use mathlib.Core.Path.{_≡_, refl, sym}
 use Prim.Native.Nat.{_+_, _-_, _*_}
 use native.Mathlib.Omega.{arith}
 use borrow.Author.Needs.{needs}
-use Rattle.laws.specs.Tests.{is-equal, not-equal, is-below, not-below, or-go, or-stop}
-use Rattle.laws.specs.Faults.{rule-go, rule-stop}
+use Rattle.laws.specs.Tests.{_implies_, is-equal, not-equal, is-below, not-below, or-go, or-stop}
+use Rattle.laws.specs.Faults.{rule, rule-go, rule-stop}
 use Rattle.protocol.specs.Layout.{firstWidth, atBallot}
 use Rattle.protocol.specs.Record.{idOf}
 use Rattle.protocol.specs.Rules.{ballotRules}
@@ -12,7 +12,7 @@ use Rattle.rules.proofs.ballot_rules.Statement.{statement}
 use Rattle.rules.proofs.ballot_rules.Tie as tie
 
 returns : tie.Need-returns
-unfolding ballotRules
+unfolding ballotRules _implies_ rule
 returns c = rule-go 5 _ _ (sym (or-stop _ _ (is-equal (omega arith)))) refl
 
 sub-read4 : tie.Need-sub-read4
@@ -36,7 +36,7 @@ unfolding ballotRules
 returns-2 c = rule-stop 5 _ _ (sym (or-go _ _ (not-equal (λ e. omega arith)) (sym (not-below (omega (arith, before-read (c .before), id-read (c .before)))))))
 
 returns-3 : tie.Need-returns-3
-unfolding ballotRules
+unfolding ballotRules _implies_ rule
 returns-3 c = rule-go 5 _ _ (sym (or-go _ _ (not-equal (λ e. omega arith)) (sym (is-below (omega (arith, before-read (c .before), id-read (c .before))))))) refl
 
 pub ballot-rules-spec : {M : Type 1} → statement M
