@@ -1,5 +1,5 @@
 -- The first broken rule: in one command, and in a row of commands.
-use mathlib.Core.Path.{_≡_, refl, sym, ap, _∙_}
+use mathlib.Core.Path.{_≡_, refl, sym, ap, ap₂, _∙_}
 use mathlib.Core.Bool.{Bool, true, false}
 use mathlib.Core.Logic.{_↔_, _≢_, _⊎_, inl, inr}
 use Prim.Native.Nat.{ℕ, zero, suc, _+_, _≤_, _<_}
@@ -139,6 +139,30 @@ first-prefix f k (suc n) l ne = go (eq-or-lt-of-le l) (λ m. first-prefix f k n 
     go : (k ≡ suc n) ⊎ (k < suc n) → (k < suc n → first f n ≡ first f k) → first f n then f n ≡ first f k
     go (inl e) ih = ap (first f) (sym e)
     go (inr m) ih = then-stop (first f n) (f n) (λ z. ne (sym (ih m) ∙ z)) ∙ ih m
+
+-- two searches at each place of a row. The first ones find nothing: what the second ones find decides
+pub copies-only : (a b : ℕ → Found) (n : ℕ) → first a n ≡ Nothing → first (λ j. a j then b j) n ≡ first b n
+unfolding first
+copies-only a b zero e = refl
+copies-only a b (suc n) e =
+    let t = then-nothing (first a n) (a n) .0 e in
+    ap₂ (λ (x y : Found). x then y) (copies-only a b n (t .0)) (then-go (a n) (b n) (t .1))
+
+-- place i is the first at which the first ones find something: what the second ones find before it, or that
+pub copies-before : (a b : ℕ → Found) (n i : ℕ) → i < n → first a i ≡ Nothing → a i ≢ Nothing
+    → first (λ j. a j then b j) n ≡ first b i then a i
+copies-before a b n i l z ne = go (first b i) refl
+  where
+    same : first (λ j. a j then b j) i ≡ first b i
+    same = copies-only a b i z
+
+    go : (f : Found) → first b i ≡ f → first (λ j. a j then b j) n ≡ first b i then a i
+    go Nothing e =
+        let s : a i then b i ≡ a i = then-stop (a i) (b i) ne in
+        sym (first-stop (λ j. a j then b j) n i l (same ∙ e) (λ q. ne (sym s ∙ q))) ∙ s ∙ sym (then-go (first b i) (a i) e)
+    go (Fault k place) e =
+        let some : first b i ≢ Nothing = λ q. nothing-fault q e in
+        first-prefix (λ j. a j then b j) i n (omega arith) (λ q. some (sym same ∙ q)) ∙ same ∙ sym (then-stop (first b i) (a i) some)
 
 -- what a search that was asked for has found
 pub passed-as : {g f h : Found} → g ≡ f → g ≡ h → f ≡ h

@@ -9,6 +9,9 @@ pub mod Masks
 pub mod Tables
 pub mod Sorting
 pub mod Merging
+pub mod Turns
+pub mod Halves
+pub mod Neighbours
 pub mod Permuting
 pub mod Chunks
 pub mod At
