@@ -8,6 +8,7 @@ ghost use Rattle.laws.specs.Lent.{before, after};
 ghost use Rattle.laws.specs.Tables.{tabulate};
 ghost use Rattle.laws.specs.Tests.{same};
 ghost use Rattle.laws.specs.Writing.{Went};
+ghost use Rattle.wire.specs.Comparing.{orderOf};
 
 // The byte at a place.
 pub fn read1(s: &[u8], at: usize) -> u32
@@ -33,12 +34,56 @@ pub fn read4(s: &[u8], at: usize) -> u32
     read2(s, at) * 65536 + read2(s, at + 2)
 }
 
-// The number of eight bytes from a place on.
+// A byte as a wider number.
+fn wide(x: u8) -> u64
+    ensures { λ r. ⌜ (r ≡ x) × (r < 256) ⌝ }
+{
+    x as u64
+}
+
+// The number of four bytes from a place on, for one of eight.
+fn half(s: &[u8], at: usize) -> u64
+    requires { ⌜ at + 4 ≤ length (now s) ⌝ }
+    ensures { λ r. ⌜ (r ≡ number (before s) at 4) × (r < 4294967296) ⌝ }
+{
+    wide(s[at]) * 16777216 + wide(s[at + 1]) * 65536 + wide(s[at + 2]) * 256 + wide(s[at + 3])
+}
+
+// The number of eight bytes from a place on. All of it is as wide as the answer, and no sum has more than four parts: so the compiler
+// makes one load of it.
 pub fn read8(s: &[u8], at: usize) -> u64
     requires { ⌜ at + 8 ≤ length (now s) ⌝ }
     ensures { λ r. ⌜ (r ≡ number (before s) at 8) × (r < 18446744073709551616) ⌝ }
 {
-    (read4(s, at) as u64) * 4294967296 + (read4(s, at + 4) as u64)
+    half(s, at) * 4294967296 + half(s, at + 4)
+}
+
+// Which of two numbers is the lesser one.
+pub enum Order {
+    Less,
+    Equal,
+    Greater,
+}
+
+// Compares the 32 bytes from place i of a on, as one number, with those from place j of b on: eight at once, the most significant first,
+// up to the first that differ.
+pub fn compare32(a: &[u8], i: usize, b: &[u8], j: usize) -> Order
+    requires { ⌜ (i + 32 ≤ length (now a)) × (j + 32 ≤ length (now b)) ⌝ }
+    ensures { λ r. ⌜ r ≡ orderOf (number (before a) i 32) (number (before b) j 32) ⌝ }
+{
+    let mut k: usize = 0;
+    while k < 32 {
+        let p = read8(a, i + k);
+        let q = read8(b, j + k);
+        if p != q {
+            if p < q {
+                return Order::Less;
+            }
+            return Order::Greater;
+        }
+        k += 8;
+    }
+    Order::Equal
 }
 
 // Fills out with numbers of four bytes that stand `step` bytes apart from a place on.

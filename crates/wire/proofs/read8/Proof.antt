@@ -6,7 +6,7 @@ use Rattle.wire.proofs.read8.Statement.{statement}
 use Rattle.wire.proofs.read8.Tie as tie
 
 returns : tie.Need-returns
-returns c = (read-on _ _ 4 4 (c .before .read4 .ensures .0) (c .read42 .ensures .0), omega arith)
+returns c = (read-on _ _ 4 4 (c .before .half .ensures .0) (c .half2 .ensures .0), omega arith)
 
 pub read8-spec : {M : Type 1} → statement M
-read8-spec = tie.close (tie.spec (λ c κs. search needs) (λ c. search needs) (λ c. search needs) (λ c. search needs) (λ c κs. search needs) (λ c. search needs) (λ c. search needs) returns)
+read8-spec = tie.close (tie.spec (λ c κs. search needs) (λ c. search needs) (λ c. search needs) (λ c κs. search needs) (λ c. search needs) returns)
