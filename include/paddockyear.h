@@ -72,6 +72,7 @@ enum paddockyear_number {
     PADDOCKYEAR_RULE_LENGTH = 18,
     PADDOCKYEAR_RULE_PERMUTATION = 19,
     PADDOCKYEAR_RULE_CANDIDATES = 20, /* by the runoff only */
+    PADDOCKYEAR_RULE_COPIED_BALLOT = 21,
 
     PADDOCKYEAR_POSTED_OTHERWISE = 101, /* both by receipt check and lookup only; they are no rules, and no refusals */
     PADDOCKYEAR_NOT_POSTED = 102
@@ -102,6 +103,7 @@ static inline const char *paddockyear_rule(uint32_t number) {
     case PADDOCKYEAR_RULE_LENGTH: return "a slice of another length than due";
     case PADDOCKYEAR_RULE_PERMUTATION: return "a permutation that is none";
     case PADDOCKYEAR_RULE_CANDIDATES: return "the number of candidates outside 1 to 9";
+    case PADDOCKYEAR_RULE_COPIED_BALLOT: return "a ballot with a commitment equal to one of an earlier ballot, at whichever places";
     case PADDOCKYEAR_POSTED_OTHERWISE: return "posted otherwise (the id is there, the hash differs)";
     case PADDOCKYEAR_NOT_POSTED: return "not posted (no such id)";
     default: return "no number that is answered";
@@ -212,36 +214,39 @@ uint32_t paddockyear_split(uint32_t modulus, uint32_t n, const uint32_t *numbers
  * 332mn. Where the mask is drawn, it is drawn from dice and part one as lent (one); where the sides are drawn, from dice and parts one and
  * two as lent (one, two). Lent parts are hashed and not read otherwise.
  *
+ * No two ballots may come to share a commitment, each in any of its six places: 21, tested last. With keys drawn anew for every ballot none
+ * will: a commitment hashes a key and a number. Inside one ballot equal ones stand.
+ *
  * The structs and functions further down take the same in fewer arguments. */
 
-/* Answers 0; 3; 18; 5; 10; 19. */
+/* Answers 0; 3; 18; 5; 10; 19; 21. */
 uint32_t paddockyear_part_one(
     uint32_t numbered, uint32_t election, uint32_t modulus, uint32_t ballots, uint32_t compared, const uint32_t *ids, size_t ids_length,
     const uint32_t *votes, size_t votes_length, const uint32_t *numbers, size_t numbers_length, const uint16_t *permutations,
     size_t permutations_length, const uint8_t *keys, size_t keys_length, uint8_t *PADDOCKYEAR_RESTRICT out, size_t out_length);
 
-/* With the mask given. Answers 0; 3; 18; 5; 6; 7; 10; 19. */
+/* With the mask given. Answers 0; 3; 18; 5; 6; 7; 10; 19; 21. */
 uint32_t paddockyear_part_two(
     uint32_t numbered, uint32_t election, uint32_t modulus, uint32_t ballots, uint32_t compared, const uint32_t *ids, size_t ids_length,
     const uint32_t *votes, size_t votes_length, const uint32_t *numbers, size_t numbers_length, const uint16_t *permutations,
     size_t permutations_length, const uint8_t *keys, size_t keys_length, const uint8_t *dice, size_t dice_length, uint32_t mask,
     uint8_t *PADDOCKYEAR_RESTRICT out, size_t out_length);
 
-/* With the mask drawn. Answers 0; 3; 18; 5; 6; 10; 19. */
+/* With the mask drawn. Answers 0; 3; 18; 5; 6; 10; 19; 21. */
 uint32_t paddockyear_part_two_drawn(
     uint32_t numbered, uint32_t election, uint32_t modulus, uint32_t ballots, uint32_t compared, const uint32_t *ids, size_t ids_length,
     const uint32_t *votes, size_t votes_length, const uint32_t *numbers, size_t numbers_length, const uint16_t *permutations,
     size_t permutations_length, const uint8_t *keys, size_t keys_length, const uint8_t *dice, size_t dice_length, const uint8_t *one,
     size_t one_length, uint8_t *PADDOCKYEAR_RESTRICT out, size_t out_length);
 
-/* With the sides given; the mask is that of part two. Answers 0; 3; 18; 5; 6; 7; 10; 11; 19. */
+/* With the sides given; the mask is that of part two. Answers 0; 3; 18; 5; 6; 7; 10; 11; 19; 21. */
 uint32_t paddockyear_part_three(
     uint32_t numbered, uint32_t election, uint32_t modulus, uint32_t ballots, uint32_t compared, const uint32_t *ids, size_t ids_length,
     const uint32_t *votes, size_t votes_length, const uint32_t *numbers, size_t numbers_length, const uint16_t *permutations,
     size_t permutations_length, const uint8_t *keys, size_t keys_length, const uint8_t *dice, size_t dice_length, uint32_t mask,
     const uint8_t *sides, size_t sides_length, uint8_t *PADDOCKYEAR_RESTRICT out, size_t out_length);
 
-/* With the sides drawn; the mask is that of part two. Answers 0; 3; 18; 5; 6; 7; 10; 19. */
+/* With the sides drawn; the mask is that of part two. Answers 0; 3; 18; 5; 6; 7; 10; 19; 21. */
 uint32_t paddockyear_part_three_drawn(
     uint32_t numbered, uint32_t election, uint32_t modulus, uint32_t ballots, uint32_t compared, const uint32_t *ids, size_t ids_length,
     const uint32_t *votes, size_t votes_length, const uint32_t *numbers, size_t numbers_length, const uint16_t *permutations,
@@ -256,7 +261,7 @@ uint32_t paddockyear_draw_mask(uint32_t numbered, uint32_t election, uint32_t mo
 /* The three parts, their join and plain judging of it, in one call, for dice that are known beforehand: a rehearsal, or a test. The mask is
  * drawn where mask_given is 0, the sides are drawn where sides_given is 0; what is lent in the place of what is drawn is not looked at.
  * Answers 0: all four buffers are written, and the record in joined is accepted (as drawn, too, where both are drawn). Else 3; 18, for
- * every slice, that of joined too; 5; 6; 7; 10; 11; 19. */
+ * every slice, that of joined too; 5; 6; 7; 10; 11; 19; 21. */
 uint32_t paddockyear_election(
     uint32_t mask_given, uint32_t sides_given, uint32_t numbered, uint32_t election, uint32_t modulus, uint32_t ballots, uint32_t compared,
     const uint32_t *ids, size_t ids_length, const uint32_t *votes, size_t votes_length, const uint32_t *numbers, size_t numbers_length,
@@ -370,8 +375,8 @@ static inline uint32_t paddockyear_hold(const struct paddockyear_inputs *in, con
 
 /* ---- The verifier ----------------------------------------------------------------------------------------------------------------- */
 
-/* Judging of a record: 0 for accepted, else the number of the first rule broken, 1 to 17. Plain judging takes mask and sides as posted;
- * drawn judging also demands that they be the drawn ones (8, 12). A record may have any length. */
+/* Judging of a record: 0 for accepted, else the number of the first rule broken, 1 to 17 or 21. Plain judging takes mask and sides as
+ * posted; drawn judging also demands that they be the drawn ones (8, 12). A record may have any length. */
 uint32_t paddockyear_judge_plainly(const uint8_t *bytes, size_t length);
 uint32_t paddockyear_judge_as_drawn(const uint8_t *bytes, size_t length);
 
@@ -382,7 +387,8 @@ uint32_t paddockyear_first_fault(const uint8_t *bytes, size_t length, uint32_t d
 
 /* Whether a receipt of 32 bytes is posted: 0 as printed, 101 otherwise (the id is there, the hash differs), 102 not posted (no such id).
  * Else 18 for the receipt's length, or 1, 2, 3, 5 of the record as in judging. It reads the parameters and all ballots, and nothing behind
- * them: a record that stops there is enough, and a record that is answered here need not be accepted. */
+ * them: a record that stops there is enough, and a record that is answered here need not be accepted. Copied ballots (21) are left to the
+ * judge. */
 uint32_t paddockyear_check_receipt(const uint8_t *bytes, size_t length, const uint8_t *printed, size_t printed_length);
 
 /* The same answers from the ballots up to the first whose id is the one sought or larger, for a screen at which many look receipts up.
