@@ -7,35 +7,21 @@ use Prim.Native.Nat.{ℕ, _+_, _-_, _*_, _/_, _%_, _≤_, _<_}
 use native.Mathlib.Omega.{arith}
 use lib.ListN.{length, getD}
 use Rattle.laws.specs.declared.Found.the-variants.{Nothing, Fault}
-use Rattle.laws.specs.Tests.{_implies_}
 use Rattle.laws.specs.At.{number-piece}
 use Rattle.laws.specs.Bytes.{number}
 use Rattle.laws.specs.Chunks.{piece, length-piece, get-piece}
-use Rattle.laws.specs.Faults.{kept, rule, located, _then_, rule-kept, located-nothing, first-nothing, first-stop, nothing-fault}
+use Rattle.laws.specs.Faults.{_then_, first-nothing, first-stop, nothing-fault}
 use Rattle.laws.specs.Neighbours.{AllSorted, Least, none-below, least-copies}
 use Rattle.protocol.specs.declared.Parameters.{Parameters}
 use Rattle.protocol.specs.declared.Due.the-variants.{Ballot}
 use Rattle.protocol.specs.Layout.{atBallot}
 use Rattle.protocol.specs.Record.{ballotCommitmentOf}
-use Rattle.protocol.specs.Rules.{original, ballotRules, faultWith}
+use Rattle.protocol.specs.Rules.{original}
 use Rattle.protocol.specs.Judging.{foundWith, found}
+use Rattle.protocol.proofs.Copies.{copy-none, copy-found, ballot-then}
 use Rattle.copies.specs.Copied.{copyFault, firstCopy}
 use Rattle.copies.specs.Counted.{place, value}
 use Rattle.copies.proofs.Values.{Values, not-original, a-copy}
-
-module _ (p : Parameters) (r : List ℕ) where
-  original-fault : (j : ℕ) → original (ballotCommitmentOf p r) j ≡ true → copyFault p r j ≡ Nothing
-  unfolding copyFault
-  original-fault j e =
-      located-nothing (atBallot p j) (rule 21 (original (ballotCommitmentOf p r) j) kept) .1
-      (rule-kept 21 (original (ballotCommitmentOf p r) j) kept refl .1 (e, refl))
-
-  copied-fault : (j : ℕ) → original (ballotCommitmentOf p r) j ≡ false → copyFault p r j ≡ Fault 21 (atBallot p j)
-  unfolding copyFault located rule
-  copied-fault j e = ap (λ (t : Bool). located (atBallot p j) (rule 21 t kept)) e ∙ go
-    where
-      go : located (atBallot p j) (rule 21 false kept) ≡ Fault 21 (atBallot p j)
-      go = refl
 
 -- the commitments of the record
 pub values : (p : Parameters) (r : List ℕ) {base : ℕ} (k : ℕ) → ((i : ℕ) → getD r i 0 < 256) → base ≡ atBallot p 0 → atBallot p k ≤ length r
@@ -57,7 +43,8 @@ values p r {base} k small e room = record {
 module _ (p : Parameters) (r : List ℕ) {v : ℕ → ℕ} {k j : ℕ} {s : List ℕ} (w : Values (ballotCommitmentOf p r) v k) (h : AllSorted v k s)
     (g : Least v k s (length s - 1) j) where
   none-found : (i : ℕ) → i < j → copyFault p r i ≡ Nothing
-  none-found i l = original-fault p r i (go (original (ballotCommitmentOf p r) i) refl)
+  unfolding copyFault
+  none-found i l = copy-none p r i (go (original (ballotCommitmentOf p r) i) refl)
     where
       go : (t : Bool) → original (ballotCommitmentOf p r) i ≡ t → t ≡ true
       go true e = refl
@@ -67,24 +54,15 @@ module _ (p : Parameters) (r : List ℕ) {v : ℕ → ℕ} {k j : ℕ} {s : List
   no-copy e = sym (first-nothing (copyFault p r) k .1 (λ i l. none-found i (omega arith)))
 
   pub some-copy : j ≢ k → Fault 21 (atBallot p j) ≡ firstCopy p r k
+  unfolding copyFault
   some-copy ne =
       let l : j < k = omega (arith, g .most) in
-      let f = copied-fault p r j (a-copy w j l (least-copies h g ne)) in
+      let f : copyFault p r j ≡ Fault 21 (atBallot p j) = copy-found p r j (a-copy w j l (least-copies h g ne)) in
       sym f ∙ first-stop (copyFault p r) k j l (first-nothing (copyFault p r) j .1 none-found) (λ q. nothing-fault q f)
 
 -- ---- rule 21 is the last of a ballot's
 
-rules-then : (place : ℕ) (a b c d o : Bool)
-    → located place (rule 1 a (rule 2 b (rule 1 c (rule 5 d (rule 21 (true implies o) kept)))))
-    ≡ (located place (rule 1 a (rule 2 b (rule 1 c (rule 5 d (rule 21 (false implies o) kept))))) then located place (rule 21 o kept))
-unfolding located rule _then_ _implies_
-rules-then place true true true true o = refl
-rules-then place true true true false o = refl
-rules-then place true true false d o = refl
-rules-then place true false c d o = refl
-rules-then place false b c d o = refl
-
 pub judged-ballot : (drawn : Bool) (p : Parameters) (r : List ℕ) (j : ℕ)
     → foundWith drawn p r true (Ballot j) ≡ (found drawn p r (Ballot j) then copyFault p r j)
-unfolding foundWith faultWith ballotRules copyFault
-judged-ballot drawn p r j = rules-then (atBallot p j) _ _ _ _ (original (ballotCommitmentOf p r) j)
+unfolding copyFault
+judged-ballot drawn p r j = ballot-then drawn p r j

@@ -140,21 +140,26 @@ first-prefix f k (suc n) l ne = go (eq-or-lt-of-le l) (λ m. first-prefix f k n 
     go (inl e) ih = ap (first f) (sym e)
     go (inr m) ih = then-stop (first f n) (f n) (λ z. ne (sym (ih m) ∙ z)) ∙ ih m
 
+pub then-end : (a : Found) → a then Nothing ≡ a
+unfolding _then_
+then-end Nothing = refl
+then-end (Fault k place) = refl
+
 -- two searches at each place of a row. The first ones find nothing: what the second ones find decides
-pub copies-only : (a b : ℕ → Found) (n : ℕ) → first a n ≡ Nothing → first (λ j. a j then b j) n ≡ first b n
+pub pairs-passed : (a b : ℕ → Found) (n : ℕ) → first a n ≡ Nothing → first (λ j. a j then b j) n ≡ first b n
 unfolding first
-copies-only a b zero e = refl
-copies-only a b (suc n) e =
+pairs-passed a b zero e = refl
+pairs-passed a b (suc n) e =
     let t = then-nothing (first a n) (a n) .0 e in
-    ap₂ (λ (x y : Found). x then y) (copies-only a b n (t .0)) (then-go (a n) (b n) (t .1))
+    ap₂ (λ (x y : Found). x then y) (pairs-passed a b n (t .0)) (then-go (a n) (b n) (t .1))
 
 -- place i is the first at which the first ones find something: what the second ones find before it, or that
-pub copies-before : (a b : ℕ → Found) (n i : ℕ) → i < n → first a i ≡ Nothing → a i ≢ Nothing
+pub pairs-stopped : (a b : ℕ → Found) (n i : ℕ) → i < n → first a i ≡ Nothing → a i ≢ Nothing
     → first (λ j. a j then b j) n ≡ first b i then a i
-copies-before a b n i l z ne = go (first b i) refl
+pairs-stopped a b n i l z ne = go (first b i) refl
   where
     same : first (λ j. a j then b j) i ≡ first b i
-    same = copies-only a b i z
+    same = pairs-passed a b i z
 
     go : (f : Found) → first b i ≡ f → first (λ j. a j then b j) n ≡ first b i then a i
     go Nothing e =

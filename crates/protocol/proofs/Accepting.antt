@@ -17,11 +17,11 @@ use Rattle.protocol.specs.Terms.{item}
 use Rattle.protocol.specs.Layout.{code, width, lists, atEnd, recordLength}
 use Rattle.protocol.specs.Record.{parametersOf, maskOf, positionOf, shiftOf, sideOf, boardOf, comparisonOf, disclosureOf}
 use Rattle.protocol.specs.Rules.{ballotRules, rules as rulesOf, placeOf, fault}
-use Rattle.protocol.specs.Judging.{judgedBallots, partOneFaults, firstFault, judged, firstFaultWith, judgedWith}
+use Rattle.protocol.specs.Judging.{judged, judgedWith}
 use Rattle.protocol.specs.Stands.{Laid, Valid, Original, Stands, Drawn}
 use Rattle.protocol.proofs.Lengths.{record-length}
 use Rattle.protocol.proofs.Within.{Shaped, laid-shaped, first-within, ballot-within, entry-within, first-dice-within, link-within, second-dice-within, ballot-half-within, list-half-within, vote-within, full-within, end-within}
-use Rattle.protocol.proofs.Faultless.{Faultless, accepted-iff}
+use Rattle.protocol.proofs.Faultless.{Faultless, accepted-iff, judged-with}
 use Rattle.protocol.proofs.Tested.{fault-with-iff, fault-iff, first-tests, ballot-tests, entry-tests, first-dice-tests, link-tests, second-dice-tests, ballot-half-tests, list-half-tests, vote-tests, full-tests}
 
 -- a bit that is not 0 is 1
@@ -251,11 +251,6 @@ accepts-with-iff copies r = (
   λ e. let k = accepted-iff copies false r .0 e in (laid copies false r k, (valid copies false r k, original copies false r k)),
   λ s. accepted-iff copies false r .1 (faultless copies false r (s .0) (s .1 .0) (s .1 .1) (λ e. absurd (never e refl))),
 )
-
--- the judge asks for it
-pub judged-with : (drawn : Bool) (r : List ℕ) → judged drawn r ≡ judgedWith true drawn r
-unfolding judged judgedWith firstFault firstFaultWith partOneFaults judgedBallots
-judged-with drawn r = refl
 
 pub accepts-iff : (r : List ℕ) → (judged false r ≡ accepted) ↔ Stands r
 accepts-iff r = (

@@ -19,7 +19,7 @@ use Rattle.protocol.specs.Terms.{item, commitment}
 use Rattle.protocol.specs.Layout.{atBallot, lists}
 use Rattle.protocol.specs.Record.{parametersOf, idOf, ballotCommitmentOf, boardOf}
 use Rattle.protocol.specs.Rules.{original, ballotRules, faultWith}
-use Rattle.protocol.specs.Judging.{foundWith, found, entryFaults, judgedBallots, partOneFaults, partTwoFaults, partThreeFaults, firstFault, judged, firstFaultWith, judgedWith}
+use Rattle.protocol.specs.Judging.{foundWith, found, entryFaults, partTwoFaults, partThreeFaults, firstFault, judged, firstFaultWith, judgedWith}
 use Rattle.protocol.specs.Stands.{Original}
 use Rattle.protocol.specs.Inputs.{Slices, inputsOf}
 use Rattle.protocol.specs.Servers.{ballotOpening, postedBoard}
@@ -27,7 +27,7 @@ use Rattle.protocol.specs.Refusals.{allOriginal}
 use Rattle.protocol.proofs.Goodness.{Good}
 use Rattle.protocol.proofs.Named.{unoriginal}
 use Rattle.protocol.proofs.Tested.{fault-with-iff, ballot-tests}
-use Rattle.protocol.proofs.Faultless.{accepted-nothing, accepted-iff}
+use Rattle.protocol.proofs.Faultless.{accepted-nothing, accepted-iff, fault-with}
 use Rattle.protocol.proofs.Accepting.{accepts-with-iff}
 use Rattle.protocol.proofs.Unfitting.{copied}
 use Rattle.protocol.proofs.Completeness.{Taken, written, written-laid, written-commitment, written-parameters}
@@ -44,23 +44,16 @@ located-last place true true false b5 x = refl
 located-last place true true true false x = refl
 located-last place true true true true x = refl
 
-module _ (drawn : Bool) (p : Parameters) (r : List ℕ) where
-  -- the copy that rule 21 finds
+module _ (p : Parameters) (r : List ℕ) where
+  -- what rule 21 finds at ballot j
   abbrev pub copy : ℕ → Found
   copy j = located (atBallot p j) (rule 21 (original (ballotCommitmentOf p r) j) kept)
 
-  -- rule 21 comes behind all that is found of a ballot by itself
-  pub ballot-then : (j : ℕ) → foundWith drawn p r true (Ballot j) ≡ found drawn p r (Ballot j) then copy j
-  unfolding foundWith faultWith ballotRules _implies_ rule
-  ballot-then j =
-      located-last (atBallot p j) (below (atBallot p j) (length r)) (equal (item r (atBallot p j)) 2) (atMost (atBallot p j + 197) (length r))
-      (equal j 0 or below (idOf p r (j - 1)) (idOf p r j)) (rule 21 (original (ballotCommitmentOf p r) j) kept)
-
-  copy-none : (j : ℕ) → original (ballotCommitmentOf p r) j ≡ true → copy j ≡ Nothing
+  pub copy-none : (j : ℕ) → original (ballotCommitmentOf p r) j ≡ true → copy j ≡ Nothing
   unfolding located rule
   copy-none j e = rw e
 
-  copy-found : (j : ℕ) → original (ballotCommitmentOf p r) j ≡ false → copy j ≡ Fault 21 (atBallot p j)
+  pub copy-found : (j : ℕ) → original (ballotCommitmentOf p r) j ≡ false → copy j ≡ Fault 21 (atBallot p j)
   unfolding located rule
   copy-found j e = rw e
 
@@ -70,6 +63,13 @@ module _ (drawn : Bool) (p : Parameters) (r : List ℕ) where
       go : (b : Bool) → original (ballotCommitmentOf p r) j ≡ b → (copy j ≡ Nothing) ⊎ ((original (ballotCommitmentOf p r) j ≡ false) × (copy j ≡ Fault 21 (atBallot p j)))
       go true e = inl (copy-none j e)
       go false e = inr (e, copy-found j e)
+
+-- rule 21 comes behind all that is found of a ballot by itself
+pub ballot-then : (drawn : Bool) (p : Parameters) (r : List ℕ) (j : ℕ) → foundWith drawn p r true (Ballot j) ≡ found drawn p r (Ballot j) then copy p r j
+unfolding foundWith faultWith ballotRules _implies_ rule
+ballot-then drawn p r j =
+    located-last (atBallot p j) (below (atBallot p j) (length r)) (equal (item r (atBallot p j)) 2) (atMost (atBallot p j + 197) (length r))
+    (equal j 0 or below (idOf p r (j - 1)) (idOf p r j)) (rule 21 (original (ballotCommitmentOf p r) j) kept)
 
 -- ---- a row of ballots
 
@@ -103,7 +103,7 @@ first-either a b (suc n) = go (first-either a b n)
     go (inl e) = same (first a n) refl e
     go (inr (j, l, e, ne)) = inr (j, omega (arith, l), then-stop (first f n) (f n) (λ q. ne (sym e ∙ q)) ∙ e, ne)
 
-first-alike : (f g : ℕ → Found) → ((j : ℕ) → f j ≡ g j) → (n : ℕ) → first f n ≡ first g n
+pub first-alike : (f g : ℕ → Found) → ((j : ℕ) → f j ≡ g j) → (n : ℕ) → first f n ≡ first g n
 unfolding first
 first-alike f g h zero = refl
 first-alike f g h (suc n) = ap₂ _then_ (first-alike f g h n) (h n)
@@ -114,11 +114,6 @@ module _ (drawn : Bool) (r : List ℕ) where
   -- the ballots that the judge refuses by 21
   abbrev pub Copies : ℕ → Type 0
   Copies j = (j < parametersOf r .ballots) × (original (ballotCommitmentOf (parametersOf r) r) j ≡ false)
-
-  -- the judge asks for rule 21
-  pub fault-with : firstFault drawn r ≡ firstFaultWith true drawn r
-  unfolding firstFault firstFaultWith partOneFaults judgedBallots
-  fault-with = refl
 
   -- nothing else has changed: what is found is what was found without rule 21, or 21 at a ballot that copies
   pub only-copies : (firstFault drawn r ≡ firstFaultWith false drawn r) ⊎ ((j : ℕ) × Copies j × (firstFault drawn r ≡ Fault 21 (atBallot (parametersOf r) j)))
@@ -143,29 +138,29 @@ module _ (drawn : Bool) (r : List ℕ) where
       Claim : Type 0
       Claim = (firstFault drawn r ≡ all read) ⊎ ((j : ℕ) × Copies j × (firstFault drawn r ≡ Fault 21 (atBallot p j)))
 
-      is : ballots ≡ first (λ j. found drawn p r (Ballot j) then copy drawn p r j) (p .ballots)
+      is : ballots ≡ first (λ j. found drawn p r (Ballot j) then copy p r j) (p .ballots)
       is = first-alike _ _ (ballot-then drawn p r) (p .ballots)
 
       by : found drawn p r First ≡ Nothing
-          → (first (λ j. found drawn p r (Ballot j) then copy drawn p r j) (p .ballots) ≡ read)
-          ⊎ ((j : ℕ) × (j < p .ballots) × (first (λ j. found drawn p r (Ballot j) then copy drawn p r j) (p .ballots) ≡ copy drawn p r j) × (copy drawn p r j ≢ Nothing))
+          → (first (λ j. found drawn p r (Ballot j) then copy p r j) (p .ballots) ≡ read)
+          ⊎ ((j : ℕ) × (j < p .ballots) × (first (λ j. found drawn p r (Ballot j) then copy p r j) (p .ballots) ≡ copy p r j) × (copy p r j ≢ Nothing))
           → Claim
-      by z (inl e) = inl (fault-with ∙ ap all (is ∙ e))
-      by z (inr (j, l, e, ne)) = at (copies-or drawn p r j)
+      by z (inl e) = inl (fault-with drawn r ∙ ap all (is ∙ e))
+      by z (inr (j, l, e, ne)) = at (copies-or p r j)
         where
-          at : (copy drawn p r j ≡ Nothing) ⊎ ((original (ballotCommitmentOf p r) j ≡ false) × (copy drawn p r j ≡ Fault 21 (atBallot p j))) → Claim
+          at : (copy p r j ≡ Nothing) ⊎ ((original (ballotCommitmentOf p r) j ≡ false) × (copy p r j ≡ Fault 21 (atBallot p j))) → Claim
           at (inl n) = absurd (ne n)
           at (inr (o, q)) =
               let f : ballots ≡ Fault 21 (atBallot p j) = is ∙ e ∙ q in
               let some : ballots ≢ Nothing = λ n. nothing-fault n f in
               let one : ballots then first (entryFaults drawn p r) (lists p) ≡ ballots = then-stop _ _ some in
-              inr (j, (l, o), fault-with ∙ then-go (found drawn p r First) _ z ∙ then-stop _ rest (λ n. some (sym one ∙ n)) ∙ one ∙ f)
+              inr (j, (l, o), fault-with drawn r ∙ then-go (found drawn p r First) _ z ∙ then-stop _ rest (λ n. some (sym one ∙ n)) ∙ one ∙ f)
 
       go : (x : Found) → found drawn p r First ≡ x → Claim
       go Nothing z = by z (first-either _ _ (p .ballots))
       go (Fault k place) z =
           let some : found drawn p r First ≢ Nothing = λ n. nothing-fault n z in
-          inl (fault-with ∙ then-stop _ _ some ∙ sym (then-stop _ _ some))
+          inl (fault-with drawn r ∙ then-stop _ _ some ∙ sym (then-stop _ _ some))
 
   -- "stored boards": one without a copied ballot keeps number, place and verdict
   pub stored-fault : Original (boardOf r) → firstFault drawn r ≡ firstFaultWith false drawn r
@@ -187,7 +182,7 @@ module _ (drawn : Bool) (r : List ℕ) where
       go : (firstFault drawn r ≡ firstFaultWith false drawn r) ⊎ ((j : ℕ) × Copies j × (firstFault drawn r ≡ Fault 21 (atBallot (parametersOf r) j))) → answerOf (numberOf (firstFault drawn r)) [] ≡ refused 21
       go (inr (k, _, f)) = ap (λ (f : Found). answerOf (numberOf f) []) f
       go (inl f) =
-          let k = accepted-iff true drawn r .0 (accepted-nothing true drawn r .1 (sym fault-with ∙ f ∙ z)) in
+          let k = accepted-iff true drawn r .0 (accepted-nothing true drawn r .1 (sym (fault-with drawn r) ∙ f ∙ z)) in
           let h = ballot-tests drawn (parametersOf r) r true j .0 (fault-with-iff drawn (parametersOf r) r true (Ballot j) .0 (k .ballots j l) .1 .1) .1 refl in
           let (i, s, t, li, ls, lt, q) = unoriginal _ j .0 e in
           absurd (h i li s ls t lt q)

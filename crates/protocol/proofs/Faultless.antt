@@ -1,11 +1,12 @@
 -- A record is accepted exactly if no command of it has a fault, be rule 21 asked for or not.
-use mathlib.Core.Path.{_≡_, refl, ap}
+use mathlib.Core.Path.{_≡_, refl, sym, ap, _∙_}
 use mathlib.Core.Logic.{_↔_, _≢_}
-use mathlib.Core.Bool.{Bool}
+use mathlib.Core.Bool.{Bool, true}
 use mathlib.Core.List.{List, []}
 use Prim.Native.Nat.{ℕ, zero, suc, _≤_, _<_}
 use native.Mathlib.Omega.{arith}
 use lib.ListN.{length}
+use Rattle.laws.specs.declared.Found.{Found}
 use Rattle.laws.specs.declared.Found.the-variants.{Nothing}
 use Rattle.laws.specs.Faults.{numberOf, rules, Numbered, numbered}
 use Rattle.laws.specs.Masks.{bit}
@@ -15,7 +16,7 @@ use Rattle.protocol.specs.Answers.{answerOf, accepted}
 use Rattle.protocol.specs.Layout.{lists, recordLength}
 use Rattle.protocol.specs.Record.{parametersOf, maskOf}
 use Rattle.protocol.specs.Rules.{faultWith, fault}
-use Rattle.protocol.specs.Judging.{found, foundWith, ifCompared, ifOpened, entryFaults, linkFaults, listHalfFaults, halfFaults, voteFaults, fullFaults, trailingFault, partTwoFaults, partThreeFaults, firstFaultWith, judgedWith}
+use Rattle.protocol.specs.Judging.{found, foundWith, ifCompared, ifOpened, entryFaults, linkFaults, listHalfFaults, halfFaults, voteFaults, fullFaults, trailingFault, judgedBallots, partOneFaults, partTwoFaults, partThreeFaults, firstFault, judged, firstFaultWith, judgedWith}
 
 -- no command has a fault, and no byte follows the last
 pub record Faultless (copies drawn : Bool) (p : Parameters) (r : List ℕ) : Type 0 where
@@ -72,3 +73,19 @@ module _ (copies drawn : Bool) (r : List ℕ) where
 
   pub accepted-iff : (judgedWith copies drawn r ≡ accepted) ↔ Faultless copies drawn (parametersOf r) r
   accepted-iff = (λ e. faultless-iff .0 (accepted-nothing .0 e), λ k. accepted-nothing .1 (faultless-iff .1 k))
+
+-- the judge asks for rule 21
+module _ (drawn : Bool) (r : List ℕ) where
+  pub fault-with : firstFault drawn r ≡ firstFaultWith true drawn r
+  unfolding firstFault firstFaultWith partOneFaults judgedBallots
+  fault-with = refl
+
+  pub judged-with : judged drawn r ≡ judgedWith true drawn r
+  unfolding judged judgedWith
+  judged-with = ap (λ (f : Found). answerOf (numberOf f) []) fault-with
+
+  pub judged-nothing : (judged drawn r ≡ accepted) ↔ (firstFault drawn r ≡ Nothing)
+  judged-nothing = (
+    λ e. fault-with ∙ accepted-nothing true drawn r .0 (sym judged-with ∙ e),
+    λ e. judged-with ∙ accepted-nothing true drawn r .1 (sym fault-with ∙ e),
+  )

@@ -9,7 +9,7 @@ use lib.ListN.{length}
 use Rattle.laws.specs.declared.Found.{Found}
 use Rattle.laws.specs.declared.Found.the-variants.{Nothing, Fault}
 use Rattle.laws.specs.Tests.{choose, equal, atMost, never, equal-iff, unequal-iff, atMost-iff, atMost-fails, is-atMost, not-atMost}
-use Rattle.laws.specs.Faults.{rule, kept, located, _then_, first, numberOf, nothing-fault, rule-kept, located-nothing, located-at, then-nothing, then-go, then-stop, rule-stop}
+use Rattle.laws.specs.Faults.{rule, kept, located, _then_, first, numberOf, nothing-fault, rule-kept, located-nothing, located-at, then-nothing, then-go, then-stop, then-end, rule-stop}
 use Rattle.protocol.specs.declared.Parameters.{Parameters}
 use Rattle.protocol.specs.declared.Due.{Due}
 use Rattle.protocol.specs.declared.Due.the-variants.{First, Entry, FirstDice, Link, SecondDice, BallotHalf, ListHalf, Vote, FullOpening, End}
@@ -84,11 +84,6 @@ then-assoc : (a b c : Found) → (a then b) then c ≡ a then (b then c)
 unfolding _then_
 then-assoc Nothing b c = refl
 then-assoc (Fault k place) b c = refl
-
-then-end : (a : Found) → a then Nothing ≡ a
-unfolding _then_
-then-end Nothing = refl
-then-end (Fault k place) = refl
 
 module _ (f : Due → Found) where
   of-one : (d : Due) → firstOf f (d ∷ []) ≡ f d

@@ -20,7 +20,7 @@ use Rattle.protocol.specs.Refusals.{afterwards}
 use Rattle.protocol.specs.Judging.{firstFault, judged}
 use Rattle.protocol.specs.Results.{announcedVotes, announcedRefusal}
 use Rattle.protocol.proofs.Answered.{unwritten, wrote}
-use Rattle.protocol.proofs.Faultless.{accepted-nothing}
+use Rattle.protocol.proofs.Faultless.{judged-nothing}
 
 module _ (r : List ℕ) where
   -- the votes as they are read, one behind the other
@@ -47,7 +47,7 @@ module _ (r : List ℕ) where
     unfolding announcedRefusal numberOf judged answerOf
     votes-refused k e =
         let w : numberOf (firstFault false r) ≡ k = ap numberOf e in
-        let ne : k ≢ 0 = λ z. nothing-fault (accepted-nothing false r .0 (ap (λ (x : ℕ). answerOf x []) (w ∙ z))) e in
+        let ne : k ≢ 0 = λ z. nothing-fault (judged-nothing false r .0 (ap (λ (x : ℕ). answerOf x []) (w ∙ z))) e in
         unwritten k _ out (announcedVotes r)
         (sym w ∙ sym (choose-set (numberOf (firstFault false r)) (rule 18 (equal (length out) (parametersOf r .ballots)) 0) (numberOf (firstFault false r)) (λ z. ne (sym w ∙ z))))
         ne

@@ -18,7 +18,7 @@ use Rattle.protocol.specs.Record.{parametersOf}
 use Rattle.protocol.specs.Judging.{firstFault, judged}
 use Rattle.protocol.specs.Results.{announcedVotes, inFront, electionWord, electionLine, acceptedLines, refusedWord, tooLongWord, tallyLines, pageOf, page}
 use Rattle.decimals.proofs.Digits.{decimal-length}
-use Rattle.protocol.proofs.Faultless.{accepted-nothing}
+use Rattle.protocol.proofs.Faultless.{judged-nothing}
 
 -- what was written from the start on stands in front
 pub front : {l out v w : List ℕ} {r : ℕ} → Went l 0 v out r → v ≡ w → (out ≡ inFront w l) × (r ≡ length w)
@@ -52,5 +52,5 @@ module _ (r : List ℕ) where
     pub refused : (k : ℕ) {place : ℕ} → length r ≤ 65536 → firstFault true r ≡ Fault k place
         → Went l 0 (refusedWord ++ (decimal k ++ (10 ∷ []))) out n → (out ≡ inFront (page r) l) × (n ≡ length (page r))
     unfolding pageOf numberOf judged answerOf
-    refused zero h e w = absurd (nothing-fault (accepted-nothing true r .0 (ap (λ (x : ℕ). answerOf x []) (ap numberOf e))) e)
+    refused zero h e w = absurd (nothing-fault (judged-nothing true r .0 (ap (λ (x : ℕ). answerOf x []) (ap numberOf e))) e)
     refused (suc k) h e w = front w (page-is h (ap numberOf e))

@@ -16,7 +16,7 @@ use Rattle.protocol.specs.Terms.{decimal}
 use Rattle.protocol.specs.Record.{parametersOf}
 use Rattle.protocol.specs.Judging.{firstFault, judged}
 use Rattle.protocol.specs.Results.{announcedVotes, inFront, acceptedLines, refusedWord, tooLongWord, page}
-use Rattle.protocol.proofs.Faultless.{accepted-nothing}
+use Rattle.protocol.proofs.Faultless.{judged-nothing}
 use Rattle.results.proofs.Paging as paging
 use Rattle.runoff.specs.Rounds.{runoffRefusal}
 use Rattle.runoff.specs.Page.{runoffLines, countedPage, runoffPage}
@@ -66,4 +66,4 @@ module _ (candidates : ℕ) (r : List ℕ) where
     unfolding judged answerOf
     refused k h e w =
         as-page l (paging.refused r k h e w)
-        (stands-not (sym (and-last-stop _ _ (not-equal (λ z. nothing-fault (accepted-nothing true r .0 (ap (λ (x : ℕ). answerOf x []) z)) e)))))
+        (stands-not (sym (and-last-stop _ _ (not-equal (λ z. nothing-fault (judged-nothing true r .0 (ap (λ (x : ℕ). answerOf x []) z)) e)))))

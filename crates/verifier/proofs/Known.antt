@@ -16,9 +16,9 @@ use Rattle.sha3.specs.declared.Sponge.{Sponge}
 use Rattle.sha3.specs.Sha3.{absorbBytes, empty}
 use Rattle.protocol.specs.declared.Parameters.{Parameters}
 use Rattle.protocol.specs.declared.Due.{Due}
-use Rattle.protocol.specs.declared.Due.the-variants.{First, Entry, FirstDice, Link, BallotHalf, Vote, FullOpening}
+use Rattle.protocol.specs.declared.Due.the-variants.{First, Ballot, Entry, FirstDice, Link, BallotHalf, Vote, FullOpening}
 use Rattle.protocol.specs.Terms.{opened}
-use Rattle.protocol.specs.Layout.{width, lists, atEntry, atFirstDice, atLink, atSecondDice}
+use Rattle.protocol.specs.Layout.{firstWidth, width, lists, atBallot, atEntry, atFirstDice, atLink, atSecondDice}
 use Rattle.protocol.specs.Record.{parametersOf, maskOf, linkPlace, positionOf, shiftOf, sideOf, ballotOpeningOf, voteOf, fullOpeningOf}
 use Rattle.protocol.specs.Drawing.{challenge}
 use Rattle.protocol.specs.Rules.{numbersBelow, placeOf, rules as rulesOf, fault}
@@ -131,9 +131,18 @@ module _ (drawn : Bool) (p : Parameters) (r : List ℕ) where
   pub started : fault (parametersOf r) r drawn First ≡ 0 → p ≡ parametersOf r → Started p r
   started e s =
       let t = first-tests drawn p r .0 (fault-iff drawn (parametersOf r) r First .0 e .1 .1) in
-      rw s (record { few = record { ballots = t .1 .0 .1; compared = t .1 .1 .1 }; ballots-low = t .1 .0 .0; compared-low = t .1 .1 .0 })
+      rw s (record { few = record { ballots = t .1 .0 .1; compared = t .1 .1 .1 }; ballots-low = t .1 .0 .0; compared-low = t .1 .1 .0; whole = omega (arith, stands-whole drawn (parametersOf r) r First e) })
 
   -- ---- part one
+
+  -- ballots that stand end inside of the record
+  pub ballots-reach : (k : ℕ) → firstWidth p ≤ length r → first (λ j. found drawn p r (Ballot j)) k ≡ Nothing → atBallot p k ≤ length r
+  unfolding atBallot foundWith
+  ballots-reach zero h e = omega arith
+  ballots-reach (suc k) h e =
+      let t = simp rules at e in
+      let w : firstWidth p + 197 * k + 197 ≤ length r = stands-whole drawn p r (Ballot k) (t k (omega arith)) in
+      omega arith
 
   pub part-one-reaches : partOneFaults drawn p r ≡ Nothing → 1 ≤ p .ballots → 1 ≤ p .compared → atFirstDice p ≤ length r
   unfolding partOneFaults entryFaults foundWith

@@ -14,7 +14,7 @@ use Rattle.protocol.specs.Layout.{firstCode}
 use Rattle.protocol.specs.Record.{formOf, parametersOf}
 use Rattle.protocol.specs.Rules.{fault, faultWith}
 use Rattle.protocol.specs.Judging.{found, foundWith, ballotFaults, partOneFaults, partTwoFaults, partThreeFaults, firstFault, judged}
-use Rattle.protocol.proofs.Faultless.{accepted-nothing}
+use Rattle.protocol.proofs.Faultless.{judged-nothing}
 use Rattle.protocol.proofs.Forms.{code-width}
 
 -- the first command's rule is the same for all parameters in whose form it has the byte of the record's own
@@ -36,9 +36,9 @@ module _ (drawn : Bool) (r : List ℕ) where
   -- ---- the verdict
 
   pub accepted-is : firstFault drawn r ≡ Nothing → verdictAnswer Accepted ≡ judged drawn r
-  accepted-is e = sym (accepted-nothing drawn r .1 e)
+  accepted-is e = sym (judged-nothing drawn r .1 e)
 
   pub refused-is : (k : ℕ) {at : ℕ} → firstFault drawn r ≡ Fault k at → verdictAnswer (Refused k) ≡ judged drawn r
   unfolding judged answerOf numberOf
-  refused-is zero e = absurd (nothing-fault (accepted-nothing drawn r .0 (ap (λ (f : Found). answerOf (numberOf f) []) e)) e)
+  refused-is zero e = absurd (nothing-fault (judged-nothing drawn r .0 (ap (λ (f : Found). answerOf (numberOf f) []) e)) e)
   refused-is (suc k) e = sym (ap (λ (f : Found). answerOf (numberOf f) []) e)

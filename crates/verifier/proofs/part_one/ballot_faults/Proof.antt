@@ -1,60 +1,12 @@
--- `verifier::part_one::ballot_faults` meets its contract: no ballot passed has a fault.
-use mathlib.Core.Path.{_≡_}
-use mathlib.Core.Bool.{Bool}
-use mathlib.Core.List.{List}
-use Prim.Native.Nat.{ℕ, _-_, _≤_}
-use native.Mathlib.Omega.{arith}
+-- `verifier::part_one::ballot_faults` meets its contract: no ballot passed has a fault by itself.
+use mathlib.Core.Path.{_∙_}
 use borrow.Author.Needs.{needs}
-use Rattle.laws.specs.declared.Found.{Found}
-use Rattle.laws.specs.declared.Found.the-variants.{Nothing}
-use Rattle.laws.specs.Faults.{first, first-more, passed-as, row-start, row-stop, row-end}
-use Rattle.protocol.specs.declared.Parameters.{Parameters}
-use Rattle.protocol.specs.declared.Due.the-variants.{Ballot}
-use Rattle.protocol.specs.Judging.{found, ballotFaults}
+use Rattle.verifier.proofs.Ballots.{read}
 use Rattle.verifier.proofs.part_one.ballot_faults.Statement.{statement}
 use Rattle.verifier.proofs.part_one.ballot_faults.Tie as tie
 
--- what is found of one command
-abbrev row : Bool → Parameters → List ℕ → ℕ → Found
-row drawn p r j = found drawn p r (Ballot j)
-
-abbrev Inv-loop : tie.InvT-loop
-Inv-loop bytes p drawn n j₀ j = (j ≤ n) × (first (row drawn p bytes) j ≡ Nothing)
-
-abbrev μ-loop : tie.MeasureT-loop
-μ-loop bytes p drawn n j₀ j = n - j
-
-loop-holds : tie.Need-loop-holds Inv-loop μ-loop
-loop-holds c = (omega arith, row-start _)
-
-returns : tie.Need-returns Inv-loop μ-loop
-unfolding ballotFaults
-returns c =
-    let g = c .before .before .before .before .before in
-    row-stop _ _ (g .loop .j) (omega arith) (g .loop .inv .1) (c .before .before .command-fault .ensures) (c .enum-told2 .given .1)
-
-loop-again : tie.Need-loop-again Inv-loop μ-loop
-loop-again c =
-    let g = c .before .before .before .before .before in
-    (omega arith, first-more _ _ (g .loop .inv .1) (passed-as (c .before .before .command-fault .ensures) (c .enum-told .given .1)))
-
-returns-2 : tie.Need-returns-2 Inv-loop μ-loop
-unfolding ballotFaults
-returns-2 c = row-end _ _ (c .before .loop .j) (omega arith) (omega arith) (c .before .loop .inv .1)
+returns : tie.Need-returns
+returns c = c .stopping-fault .ensures ∙ read (c .before .ballots-passed .ensures)
 
 pub ballot-faults-spec : {M : Type 1} → statement M
-ballot-faults-spec =
-    tie.close
-    (tie.spec
-    Inv-loop
-    μ-loop
-    loop-holds
-    (λ c κs. omega arith)
-    (λ c κs. search needs)
-    (λ c. search needs)
-    (λ c. search needs)
-    returns
-    (λ c. omega arith)
-    (λ c. omega arith)
-    loop-again
-    returns-2)
+ballot-faults-spec = tie.close (tie.spec (λ c κs. search needs) (λ c κs. search needs) returns)
