@@ -1,6 +1,6 @@
 -- How far a record reaches whose commands stand, and how large its parameters are.
-use mathlib.Core.Path.{_≡_, refl}
-use mathlib.Core.Bool.{Bool, false}
+use mathlib.Core.Path.{_≡_, refl, sym, _∙_}
+use mathlib.Core.Bool.{Bool, true, false}
 use mathlib.Core.List.{List}
 use Prim.Native.Nat.{ℕ, suc, _+_, _-_, _≤_, _<_}
 use native.Mathlib.Omega.{arith}
@@ -18,7 +18,7 @@ use Rattle.protocol.specs.Rules.{placeOf, fault}
 use Rattle.protocol.specs.Judging.{found, foundWith, ballotFaults, firstFault}
 use Rattle.protocol.specs.Results.{announcedVotes}
 use Rattle.protocol.proofs.Announced.{announced-length, announced-item}
-use Rattle.protocol.proofs.Faultless.{Faultless, faultless-iff}
+use Rattle.protocol.proofs.Faultless.{Faultless, faultless-iff, fault-with}
 use Rattle.protocol.proofs.Tested.{fault-iff, first-tests, vote-tests}
 use Rattle.layout.specs.Bounds.{Few}
 use Rattle.results.specs.Ready.{BallotsReady, BallotReady, LookupReady, VotesReady}
@@ -92,8 +92,8 @@ each-ready b j l = record { few = omega (arith, b .few); reaches = omega (arith,
 -- ---- an accepted record, judged plainly or as drawn
 
 module _ (drawn : Bool) (r : List ℕ) (e : firstFault drawn r ≡ Nothing) where
-  abbrev stands : Faultless drawn (parametersOf r) r
-  stands = faultless-iff drawn r .0 e
+  abbrev stands : Faultless true drawn (parametersOf r) r
+  stands = faultless-iff true drawn r .0 (sym (fault-with drawn r) ∙ e)
 
   pub accepted-whole : firstWidth (parametersOf r) ≤ length r
   accepted-whole = omega (arith, stands-whole drawn (parametersOf r) r First (stands .first))
