@@ -1,6 +1,7 @@
 //! Honest inputs and boards of any shape, and where each command of a record stands.
 
 pub mod calls;
+pub mod copies;
 pub mod damage;
 pub mod samples;
 

@@ -26,7 +26,7 @@ impl fmt::Display for Refusal {
 impl Error for Refusal {}
 
 /// The papers' words for each number.
-const RULES: [&str; 21] = [
+const RULES: [&str; 22] = [
     "",
     "the record stops inside a command or before 0B",
     "a command byte that is not due",
@@ -48,6 +48,7 @@ const RULES: [&str; 21] = [
     "a slice of another length than due",
     "a permutation that is none",
     "the number of candidates outside 1 to 9",
+    "a ballot with a commitment equal to one of an earlier ballot",
 ];
 
 fn done(answer: u32) -> Result<(), Refusal> {

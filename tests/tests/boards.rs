@@ -3,11 +3,12 @@
 
 use std::collections::{BTreeMap, BTreeSet};
 
-use paddockyear_tests::boards::samples::{files, promised, stored};
+use paddockyear_tests::boards::samples::{files, promised, stored, OF_COPIES};
 use paddockyear_tests::hex;
-use paddockyear_tests::reference::judge::Judging;
+use paddockyear_tests::reference::judge::{judge_by, Fault, Judging, JUDGINGS};
 use paddockyear_tests::reference::page::{page, teller_page, LONGEST};
 use paddockyear_tests::reference::runoff::{Candidate, Outcome};
+use paddockyear_tests::reference::terms::COPIES_STAND;
 
 #[cfg(feature = "linked")]
 use paddockyear_tests::subjects::product as subject;
@@ -23,16 +24,30 @@ fn they_are_what_is_written() {
     }
 }
 
-/// Boards stored before document 02's item 4 keep their bytes: the digest of all, one behind the
-/// other in the order of their names, was worked out then by another program.
+/// How many boards of one form were stored before document 02's item 5, and the digest of all, one
+/// behind the other in the order of their names.
+fn stored_before(numbered: bool) -> (usize, String) {
+    let mut stored = stored().unwrap();
+    stored.retain(|name, _| name.starts_with("numbered-") == numbered);
+    stored.retain(|name, _| !OF_COPIES.contains(&name.as_str()));
+    let count = stored.len();
+    let all: Vec<u8> = stored.into_values().flatten().collect();
+    (count, hex(&subject::sha3_256(&all)))
+}
+
+/// Boards stored before document 02's item 4 keep their bytes: the digest was worked out then by
+/// another program.
 #[test]
 fn unnumbered_ones_keep_their_bytes() {
-    let mut stored = stored().unwrap();
-    stored.retain(|name, _| !name.starts_with("numbered-"));
-    assert_eq!(stored.len(), 15);
-    let all: Vec<u8> = stored.into_values().flatten().collect();
     let digest = "aa8ec772ac564efe6fc1ca77643f55b95306fc74d3ec577d9a64eab13134581b";
-    assert_eq!(hex(&subject::sha3_256(&all)), digest);
+    assert_eq!(stored_before(false), (15, digest.to_string()));
+}
+
+/// The same of those stored before item 5.
+#[test]
+fn numbered_ones_keep_their_bytes() {
+    let digest = "ca644eadf7074634f969a00f2bf54927b8802480efe2e5ed42e9063894d7f72b";
+    assert_eq!(stored_before(true), (7, digest.to_string()));
 }
 
 /// Their first commands, of every kind: two whole ones and one that is cut behind M.
@@ -60,7 +75,7 @@ fn their_names_are_true() {
         assert!(bytes.len() <= LONGEST, "{name}");
         refused.insert(number);
     }
-    assert_eq!(refused, BTreeSet::from([0, 1, 2, 5, 8, 9, 12, 13, 14, 16, 17]));
+    assert_eq!(refused, BTreeSet::from([0, 1, 2, 5, 8, 9, 12, 13, 14, 16, 17, 21]));
     assert_eq!(page(&stored().unwrap()["votes-2-5-5.board"]), "ACCEPTED\n2 1\n5 2\n");
 }
 
@@ -87,4 +102,46 @@ fn check_ranked(record: &[u8], election: &str) {
                 1\t6\t6\t3\t3\t#4\n2\t7\t7\t3\t-\t#3\n3\t8\t9\t-\t-\t-\n\
                 WINNER\t#2\nBLANK\t2\nSPOILED\t3\n";
     assert_eq!(teller_page(4, record), format!("ACCEPTED\n{election}{text}"));
+}
+
+/// The six commitments of a ballot of a record.
+fn six(record: &[u8], ballot: usize) -> Vec<&[u8]> {
+    let first = if record[0] == 0x0C { 12 } else { 8 };
+    record[first + 197 * ballot + 5..][..192].chunks(32).collect()
+}
+
+/// Equal commitments: in one ballot all six, and two of the next.
+#[test]
+fn the_board_with_equal_ones_inside() {
+    let record = &stored().unwrap()["equal-inside.board"];
+    assert!(six(record, 1).iter().all(|&one| one == six(record, 1)[0]));
+    assert_eq!(six(record, 2)[0], six(record, 2)[5]);
+    let each: Vec<BTreeSet<&[u8]>> = (0..4).map(|j| BTreeSet::from_iter(six(record, j))).collect();
+    assert_eq!(each.iter().map(BTreeSet::len).collect::<Vec<usize>>(), [6, 1, 5, 6]);
+    assert_eq!(each.iter().flatten().collect::<BTreeSet<_>>().len(), 18);
+    for judging in JUDGINGS {
+        assert!(subject::judge(record, judging).is_ok(), "{judging:?}");
+    }
+}
+
+/// Boards with copies: refused by either judging, at the copying ballot, and proofs before item 5.
+#[test]
+fn the_boards_with_copied_ballots() {
+    let stored = stored().unwrap();
+    let (again, place) = (&stored["refused-21.board"], &stored["numbered-refused-21.board"]);
+    assert_eq!(six(again, 2), six(again, 0));
+    assert_eq!(six(place, 4)[0], six(place, 1)[5]);
+    for (record, at) in [(again, 8 + 197 * 2), (place, 12 + 197 * 4)] {
+        for judging in JUDGINGS {
+            let fault = Fault { number: 21, place: at };
+            assert_eq!(subject::judge(record, judging), Err(fault), "{judging:?}");
+            assert!(judge_by(COPIES_STAND, record, judging).is_ok(), "{judging:?}");
+        }
+        assert_eq!((page(record), teller_page(2, record)), (refused_21(), refused_21()));
+        assert_eq!(teller_page(0, record), refused_21());
+    }
+}
+
+fn refused_21() -> String {
+    "REFUSED 21\n".to_string()
 }

@@ -3,13 +3,14 @@
 //! `linked` through the reference alone.
 
 use paddockyear_tests::boards::calls::election::ElectionCall;
+use paddockyear_tests::boards::copies::{put_ballot, record_of};
 use paddockyear_tests::boards::{inputs, still_inputs, Layout, BOTH, FORMS};
 use paddockyear_tests::hex;
 use paddockyear_tests::random::Random;
-use paddockyear_tests::reference::judge::{Fault, JUDGINGS};
+use paddockyear_tests::reference::judge::{judge_by, Fault, Judging, JUDGINGS};
 use paddockyear_tests::reference::receipt::Posted;
 use paddockyear_tests::reference::tablet::{receipt, SplitVote};
-use paddockyear_tests::reference::terms::{sorted, Parameters};
+use paddockyear_tests::reference::terms::{sorted, Parameters, COPIES_STAND};
 use paddockyear_tests::reference::writer::{Inputs, MaskSource, SidesSource};
 
 #[cfg(feature = "linked")]
@@ -48,30 +49,40 @@ fn refused(record: &[u8], number: u8, place: usize) {
     assert_eq!(announced_votes(record, &mut [7; 2]), Err(number));
 }
 
+/// What the servers' five calls and the election answer to these inputs of two lists.
+fn answered_by_servers(random: &mut Random, inputs: &Inputs, due: Result<(), u8>) {
+    let parameters = inputs.parameters;
+    let [mut one, mut two, mut three] = parameters.part_lengths().map(|length| vec![7; length]);
+    let (dice, sides) = (random.dice(), vec![0; parameters.ballots()]);
+    assert_eq!(part_one(inputs, &mut one), due);
+    assert_eq!(part_two(inputs, &dice, MaskSource::Given(1), &mut two), due);
+    assert_eq!(part_three(inputs, &dice, 1, SidesSource::Given(&sides), &mut three), due);
+    let drawn = MaskSource::Drawn { part_one: &one };
+    assert_eq!(part_two(inputs, &dice, drawn, &mut two), due);
+    let drawn = SidesSource::Drawn { part_one: &one, part_two: &two };
+    assert_eq!(part_three(inputs, &dice, 1, drawn, &mut three), due);
+    let mut call = ElectionCall::of(random, inputs.clone(), BOTH);
+    let before = call.clone();
+    assert_eq!(call.hold(election), due);
+    if due.is_err() {
+        assert!(one.iter().chain(&two).chain(&three).all(|&byte| byte == 7));
+        assert!(call == before);
+    }
+}
+
 /// What every writer answers to these parameters, all slices being as long as they ask for.
 fn answered_by_writers(random: &mut Random, parameters: Parameters, due: Result<(), u8>) {
     let inputs = still_inputs(random, parameters);
-    let [mut one, mut two, mut three] = parameters.part_lengths().map(|length| vec![7; length]);
-    let (dice, sides) = (random.dice(), vec![0; parameters.ballots()]);
+    answered_by_servers(random, &inputs, due);
+    let (dice, one) = (random.dice(), vec![7; parameters.part_lengths()[0]]);
     assert_eq!(mask_entry(&parameters, &dice, &one).map(|_| ()), due);
-    assert_eq!(part_one(&inputs, &mut one), due);
-    assert_eq!(part_two(&inputs, &dice, MaskSource::Given(1), &mut two), due);
-    assert_eq!(part_three(&inputs, &dice, 1, SidesSource::Given(&sides), &mut three), due);
-    let drawn = MaskSource::Drawn { part_one: &one };
-    assert_eq!(part_two(&inputs, &dice, drawn, &mut two), due);
-    let drawn = SidesSource::Drawn { part_one: &one, part_two: &two };
-    assert_eq!(part_three(&inputs, &dice, 1, drawn, &mut three), due);
-    assert_eq!(ElectionCall::of(random, inputs, BOTH).hold(election), due);
     let Parameters { modulus, n, .. } = parameters;
     let (row, places) = (vec![0; n as usize], (0..n as u16).collect::<Vec<u16>>());
     let mut out = vec![7; n as usize];
     assert_eq!(row_server(modulus, n, &row, &row, &places, &mut out), due);
     assert_eq!(offsets_server(modulus, n, &row, &row, &mut out), due);
     assert_eq!(split_server(modulus, n, &row, &row, &mut out), due);
-    if due.is_err() {
-        assert!(one.iter().chain(&two).chain(&three).all(|&byte| byte == 7));
-        assert!(out.iter().all(|&number| number == 7));
-    }
+    assert!(due.is_ok() || out.iter().all(|&number| number == 7));
 }
 
 /// An election of so many ballots stands with all its writers; its record, and its last receipt.
@@ -163,6 +174,8 @@ fn byte_behind() {
     }
 }
 
+/// They stood before document 02's item 5. Servers refuse the inputs, and the judge the record that
+/// servers wrote then; receipts are as printed.
 #[test]
 fn equal_commitments() {
     let random = &mut Random::new(4);
@@ -171,10 +184,34 @@ fn equal_commitments() {
         inputs.votes[1] = inputs.votes[0];
         inputs.numbers.copy_within(0..5, 5);
         inputs.keys.copy_within(0..192, 192);
-        let record = record(random, &inputs);
+        answered_by_servers(random, &inputs, Err(21));
+        let record = record_of(random, &inputs, Judging::Drawn);
         let [first, second] = [0, 1].map(|j| Layout::new(&parameters).ballot(j));
         assert_eq!(record[first + 5..second], record[second + 5..second + 197]);
-        accepted(&record, &inputs.votes);
+        refused(&record, 21, second);
+        for (id, place) in inputs.ids.iter().zip([first, second]) {
+            let printed = receipt(*id, &record[place..][..197]);
+            assert_eq!(check_receipt(&record, &printed), Ok(Posted::AsPrinted));
+            assert_eq!(look_up(&record, &printed), Ok(Posted::AsPrinted));
+        }
+        for judging in JUDGINGS {
+            let before = judge_by(COPIES_STAND, &record, judging);
+            assert_eq!(before, Ok(sorted(&inputs.votes)), "{judging:?}");
+        }
+    }
+}
+
+#[test]
+fn equal_commitments_inside_a_ballot() {
+    let random = &mut Random::new(9);
+    for parameters in both(100, 2, 1) {
+        let mut inputs = inputs(random, parameters);
+        for ballot in 0..2 {
+            let opening = inputs.ballot_openings(ballot)[0];
+            put_ballot(&mut inputs, ballot, [opening; 6]);
+        }
+        answered_by_servers(random, &inputs, Ok(()));
+        accepted(&record(random, &inputs), &inputs.votes);
     }
 }
 

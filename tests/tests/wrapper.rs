@@ -135,7 +135,9 @@ fn refused_ballots() {
     assert_eq!(Refusal(19).to_string(), "rule 19: a permutation that is none");
     let candidates = "rule 20: the number of candidates outside 1 to 9";
     assert_eq!(Refusal(20).to_string(), candidates);
-    assert_eq!(Refusal(21).to_string(), "rule 21: no such rule");
+    let copied = "rule 21: a ballot with a commitment equal to one of an earlier ballot";
+    assert_eq!(Refusal(21).to_string(), copied);
+    assert_eq!(Refusal(22).to_string(), "rule 22: no such rule");
 }
 
 #[test]
@@ -165,6 +167,19 @@ fn check_refused_elections(random: &mut Random, form: Form) {
     assert_eq!(refused(|_, throws| throws.sides = Some(vec![2; 6])), 11);
     assert_eq!(refused(|_, throws| throws.sides = Some(vec![0; 5])), 18);
     assert_eq!(refused(|election, _| election.lists[1].columns[0].permutation[0] = 6), 19);
+    assert_eq!(refused(|election, _| cast_again(&mut election.ballots)), 21);
+    let both = |election: &mut Election, throws: &mut Throws| {
+        cast_again(&mut election.ballots);
+        throws.sides = Some(vec![2; 6]);
+    };
+    assert_eq!(refused(both), 11);
+}
+
+/// The last member casts the second's ballot; the tablet does not know the others.
+fn cast_again(ballots: &mut [Ballot]) {
+    let id = ballots[5].id;
+    ballots[5] = Ballot { id, ..ballots[1].clone() };
+    assert!(cast(FORMS[0], M, &ballots[5]).is_ok());
 }
 
 #[test]

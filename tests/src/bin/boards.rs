@@ -1,7 +1,7 @@
 //! Writes boards with the reference's verdicts to standard output: honest and damaged ones of
-//! either form, or with the argument `unnumbered` those of a time without 0C and the verdicts of
-//! then. Each has its length in 8 bytes, then for plain and for drawn judging the number in 1 byte
-//! and the place in 8, then the record.
+//! either form, or with the argument `unnumbered` those of a time without 0C, with `copies` those of
+//! a time when copied ballots stood, and the verdicts of then. Each has its length in 8 bytes, then
+//! for plain and for drawn judging the number in 1 byte and the place in 8, then the record.
 
 use std::env;
 use std::io::{self, BufWriter, Write};
@@ -10,7 +10,7 @@ use paddockyear_tests::boards::damage::{damaged_by, flipped};
 use paddockyear_tests::boards::{honest, parameters_by, ALL_DRAWS, BOTH};
 use paddockyear_tests::random::Random;
 use paddockyear_tests::reference::judge::{judge_by, JUDGINGS};
-use paddockyear_tests::reference::terms::{Edition, Parameters, NOW};
+use paddockyear_tests::reference::terms::{Edition, Parameters, COPIES_STAND, NOW};
 
 fn put(out: &mut impl Write, edition: Edition, record: &[u8]) -> io::Result<()> {
     out.write_all(&(record.len() as u64).to_be_bytes())?;
@@ -62,7 +62,8 @@ fn main() -> io::Result<()> {
     let random = &mut Random::new(70);
     let out = &mut BufWriter::new(io::stdout().lock());
     let edition = match env::args().nth(1).as_deref() {
-        Some("unnumbered") => Edition { numbered: false, ..NOW },
+        Some("unnumbered") => Edition { numbered: false, ..COPIES_STAND },
+        Some("copies") => COPIES_STAND,
         Some(other) => panic!("no boards are called {other}"),
         None => NOW,
     };

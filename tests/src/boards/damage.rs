@@ -234,7 +234,8 @@ impl Breach {
     /// Some rules need a ballot before the one that breaks them.
     pub fn possible(&self, parameters: &Parameters) -> bool {
         let needs_two = ["id as before", "id falls", "position taken", "vote falls"];
-        parameters.n > 1 || !needs_two.contains(&self.name)
+        let copied = self.number == refusal::COPIED_BALLOT;
+        parameters.n > 1 || !copied && !needs_two.contains(&self.name)
     }
 
     /// Two breaches of one rule in one command may undo each other.
@@ -307,9 +308,11 @@ pub fn breaches(form: Form, judging: Judging) -> Vec<Breach> {
     breaches_by(NOW, form, judging)
 }
 
-fn breaches_by(edition: Edition, form: Form, judging: Judging) -> Vec<Breach> {
+/// The same of an edition's rules.
+pub fn breaches_by(edition: Edition, form: Form, judging: Judging) -> Vec<Breach> {
     let mut all = byte_breaches(edition, form);
-    for group in [posting(), dice(), links(), halves(), results()] {
+    let copies = if edition.copies { Vec::new() } else { copies() };
+    for group in [posting(), copies, dice(), links(), halves(), results()] {
         all.extend(group.into_iter().map(|(command, number, name, change)| Breach {
             command,
             number,
@@ -382,6 +385,31 @@ fn posting() -> Vec<Row> {
         (0x0B, BEHIND, "a byte behind", |f, _, _| f.append(&[0x0B])),
         (0x0B, BEHIND, "bytes behind", |f, _, _| f.append(&[0x01; 300])),
     ]
+}
+
+/// 02 with a commitment of an earlier ballot.
+fn copies() -> Vec<Row> {
+    use refusal::COPIED_BALLOT;
+    vec![
+        (0x02, COPIED_BALLOT, "ballot before, same place", |f, to, _| {
+            copy(f, (to.ballot - 1, 0), (to.ballot, 0));
+        }),
+        (0x02, COPIED_BALLOT, "first ballot, other place", |f, to, _| {
+            copy(f, (0, 5), (to.ballot, 2));
+        }),
+        (0x02, COPIED_BALLOT, "ballot cast again", |f, to, _| {
+            (0..6).for_each(|slot| copy(f, (0, slot), (to.ballot, slot)));
+        }),
+        (0x02, COPIED_BALLOT, "ballot before has it of this one", |f, to, _| {
+            copy(f, (to.ballot, 4), (to.ballot - 1, 1));
+        }),
+    ]
+}
+
+/// Posts one ballot's commitment at a place of another's.
+fn copy(forgery: &mut Forgery, from: (usize, usize), (ballot, slot): (usize, usize)) {
+    let commitment = forgery.secrets.ballots[from.0][from.1].commitment();
+    forgery.set(forgery.layout.ballot(ballot) + 5 + 32 * slot, &commitment);
 }
 
 /// 04 and 06.

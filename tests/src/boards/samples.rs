@@ -5,12 +5,13 @@ use std::collections::BTreeMap;
 use std::path::Path;
 use std::{fs, io};
 
+use super::copies::{copy_ballot, copy_commitment, put_ballot, record_of, Slot};
 use super::damage::damaged_by;
 use super::{board, honest, inputs, Board, Layout, BOTH};
 use crate::random::Random;
 use crate::reference::judge::Judging;
 use crate::reference::page::LONGEST;
-use crate::reference::terms::{Edition, Form, Parameters, FORMER, NOW};
+use crate::reference::terms::{Edition, Form, Parameters, COPIES_STAND, FORMER};
 use crate::reference::writer::Inputs;
 
 /// The rules of which a refused board is written.
@@ -23,9 +24,13 @@ pub const RANKED: [u32; 23] = [
     213,
 ];
 
+/// The boards of document 02's item 5; all others were stored before it.
+pub const OF_COPIES: [&str; 3] =
+    ["equal-inside.board", "numbered-refused-21.board", "refused-21.board"];
+
 /// Names and bytes.
 pub fn files() -> Vec<(String, Vec<u8>)> {
-    [unnumbered_files(), numbered_files()].concat()
+    [unnumbered_files(), numbered_files(), files_of_copies()].concat()
 }
 
 /// Those that start with 01.
@@ -65,10 +70,29 @@ fn numbered_files() -> Vec<(String, Vec<u8>)> {
     let refused = [
         ("numbered-refused-1.board", cut),
         ("numbered-refused-2.board", again_where_dice_are_due(random)),
-        ("numbered-refused-8.board", refused_by(NOW, random, 8)),
-        ("numbered-refused-14.board", refused_by(NOW, random, 14)),
+        ("numbered-refused-8.board", refused_by(COPIES_STAND, random, 8)),
+        ("numbered-refused-14.board", refused_by(COPIES_STAND, random, 14)),
     ];
     accepted.into_iter().chain(refused.map(|(name, bytes)| (name.to_string(), bytes))).collect()
+}
+
+/// One commitment at all six places of a ballot and another at two of the next; a commitment of the
+/// second ballot at another place of the last; a ballot cast again. Of seeds of their own, so that
+/// the others stay; but for their copies the refused ones are proofs.
+fn files_of_copies() -> Vec<(String, Vec<u8>)> {
+    let random = &mut Random::new(2028);
+    let mut inside = inputs(random, Parameters::unnumbered(100, 4, 1));
+    let opening = inside.ballot_openings(1)[0];
+    put_ballot(&mut inside, 1, [opening; 6]);
+    copy_commitment(&mut inside, Slot { ballot: 2, slot: 0 }, Slot { ballot: 2, slot: 5 });
+    let inside = written(&board(random, &inside, BOTH));
+    let mut place = inputs(random, Parameters::numbered(3, 100, 5, 1));
+    copy_commitment(&mut place, Slot { ballot: 1, slot: 5 }, Slot { ballot: 4, slot: 0 });
+    let place = record_of(random, &place, Judging::Drawn);
+    let mut again = inputs(random, Parameters::unnumbered(100, 4, 1));
+    copy_ballot(&mut again, 0, 2);
+    let again = record_of(random, &again, Judging::Drawn);
+    OF_COPIES.map(str::to_string).into_iter().zip([inside, place, again]).collect()
 }
 
 /// A board with 0C for 04.

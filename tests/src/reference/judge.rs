@@ -112,7 +112,7 @@ pub struct PostedBallot {
     pub commitments: [Commitment; 6],
 }
 
-/// One command 02; `before` is the id before it, if there is one.
+/// One command 02, but for copies; `before` is the id before it, if there is one.
 pub fn ballot(reader: &mut Reader, before: Option<u32>) -> Result<PostedBallot, Fault> {
     let mut command = reader.command(0x02, 196)?;
     let ballot = PostedBallot { id: command.number(4), commitments: command.commitments() };
@@ -120,12 +120,22 @@ pub fn ballot(reader: &mut Reader, before: Option<u32>) -> Result<PostedBallot, 
     Ok(ballot)
 }
 
-/// The commands 02.
-pub fn ballots(reader: &mut Reader, parameters: &Parameters) -> Result<Vec<PostedBallot>, Fault> {
-    let mut ballots: Vec<PostedBallot> = Vec::new();
+/// The commands 02. Whether one copies an earlier one is asked last in it, where copies do not
+/// stand.
+pub fn ballots(
+    reader: &mut Reader,
+    parameters: &Parameters,
+    copies: bool,
+) -> Result<Vec<PostedBallot>, Fault> {
+    let (mut ballots, mut earlier) = (Vec::new(), EarlierBallots::default());
     for _ in 0..parameters.n {
-        let before = ballots.last().map(|before| before.id);
-        ballots.push(ballot(reader, before)?);
+        let place = reader.next;
+        let before = ballots.last().map(|before: &PostedBallot| before.id);
+        let ballot = ballot(reader, before)?;
+        if earlier.copied_by(&ballot.commitments) && !copies {
+            return Err(Fault { number: refusal::COPIED_BALLOT, place });
+        }
+        ballots.push(ballot);
     }
     Ok(ballots)
 }
@@ -298,7 +308,7 @@ pub fn judge(record: &[u8], judging: Judging) -> Result<Vec<u32>, Fault> {
 pub fn judge_by(edition: Edition, record: &[u8], judging: Judging) -> Result<Vec<u32>, Fault> {
     let mut reader = Reader::new(record);
     let parameters = parameters(&mut reader, edition)?;
-    let ballots = ballots(&mut reader, &parameters)?;
+    let ballots = ballots(&mut reader, &parameters, edition.copies)?;
     let mut judge = Judge { reader, judging, parameters };
     let lists = judge.lists()?;
     let mask = judge.first_dice()?;

@@ -1,4 +1,4 @@
-//! The receipt check, and the lookup that stops early.
+//! The receipt check, and the lookup that stops early. Copied ballots are not theirs to refuse.
 
 use super::judge::{ballot, ballots, parameters, Fault, Reader};
 use super::sha3::sha3_224;
@@ -36,7 +36,7 @@ pub fn look_up(record: &[u8], receipt: &[u8]) -> Result<Posted, u8> {
 fn posted_ids(record: &[u8]) -> Result<(Form, Vec<u32>), Fault> {
     let mut reader = Reader::new(record);
     let parameters = parameters(&mut reader, NOW)?;
-    let ids = ballots(&mut reader, &parameters)?.iter().map(|ballot| ballot.id).collect();
+    let ids = ballots(&mut reader, &parameters, true)?.iter().map(|ballot| ballot.id).collect();
     Ok((parameters.form, ids))
 }
 

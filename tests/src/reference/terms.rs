@@ -1,8 +1,10 @@
 //! Document 01's terms: parameters, numbers, openings, commitments, and the refusals' numbers.
 
+use std::collections::HashSet;
+
 use super::sha3::sha3_256;
 
-/// The numbers of document 01's refusals.
+/// The numbers of the papers' refusals.
 pub mod refusal {
     pub const STOPS: u8 = 1;
     pub const NOT_DUE: u8 = 2;
@@ -24,6 +26,7 @@ pub mod refusal {
     pub const LENGTH: u8 = 18;
     pub const PERMUTATION: u8 = 19;
     pub const CANDIDATES: u8 = 20;
+    pub const COPIED_BALLOT: u8 = 21;
 }
 
 /// By document 02's item 3.
@@ -33,16 +36,20 @@ pub const FORMER_MAX_BALLOTS: u32 = 1024;
 pub const MAX_M: u32 = 12;
 pub const DICE: usize = 30;
 
-/// What a record may be: n's limit, and whether 0C may stand first.
+/// What a record may be: n's limit, whether 0C may stand first, and whether copied ballots stand.
 #[derive(Clone, Copy, Debug, PartialEq, Eq)]
 pub struct Edition {
     pub most_ballots: u32,
     pub numbered: bool,
+    pub copies: bool,
 }
 
-pub const NOW: Edition = Edition { most_ballots: MAX_BALLOTS, numbered: true };
-/// Document 01's own, before document 02's items 3 and 4.
-pub const FORMER: Edition = Edition { most_ballots: FORMER_MAX_BALLOTS, numbered: false };
+pub const NOW: Edition = Edition { most_ballots: MAX_BALLOTS, numbered: true, copies: false };
+/// Before document 02's item 5.
+pub const COPIES_STAND: Edition = Edition { copies: true, ..NOW };
+/// Document 01's own, before document 02's items 3, 4 and 5.
+pub const FORMER: Edition =
+    Edition { most_ballots: FORMER_MAX_BALLOTS, numbered: false, copies: true };
 
 /// Which command stands first: 01, or 0C with the election's number.
 #[derive(Clone, Copy, Debug, PartialEq, Eq)]
@@ -155,6 +162,20 @@ impl Opening {
 
     pub fn commitment(&self) -> Commitment {
         sha3_256(&self.to_bytes())
+    }
+}
+
+/// The commitments of the ballots so far.
+#[derive(Default)]
+pub struct EarlierBallots(HashSet<Commitment>);
+
+impl EarlierBallots {
+    /// Whether the next ballot has a commitment of an earlier one, at whichever places. It is
+    /// compared before its own are among them: equal ones inside one ballot stand.
+    pub fn copied_by(&mut self, six: &[Commitment; 6]) -> bool {
+        let copied = six.iter().any(|commitment| self.0.contains(commitment));
+        self.0.extend(six);
+        copied
     }
 }
 

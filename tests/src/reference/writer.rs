@@ -43,6 +43,14 @@ impl Inputs {
         self.permutations.chunks(self.parameters.ballots()).all(is_permutation)
     }
 
+    /// Whether a ballot would have a commitment of an earlier one. All slices have their lengths.
+    fn copied(&self) -> bool {
+        let mut earlier = EarlierBallots::default();
+        let mut six = (0..self.parameters.ballots())
+            .map(|j| self.ballot_openings(j).map(|opening| opening.commitment()));
+        six.any(|six| earlier.copied_by(&six))
+    }
+
     fn split_vote(&self, ballot: usize) -> SplitVote {
         let given = &self.numbers[5 * ballot..][..5];
         SplitVote {
@@ -52,7 +60,7 @@ impl Inputs {
         }
     }
 
-    fn ballot_openings(&self, ballot: usize) -> [Opening; 6] {
+    pub fn ballot_openings(&self, ballot: usize) -> [Opening; 6] {
         let numbers = self.split_vote(ballot).six(self.parameters.modulus);
         openings(numbers, &self.keys[192 * ballot..][..192])
     }
@@ -270,6 +278,7 @@ pub(super) fn check(inputs: &Inputs, given: &Given, lent: &[(usize, usize)]) -> 
     ];
     match rules.iter().find(|(_, kept)| !kept) {
         Some(&(number, _)) => Err(number),
+        None if inputs.copied() => Err(refusal::COPIED_BALLOT),
         None => Ok(()),
     }
 }
@@ -282,7 +291,7 @@ pub(super) fn due_lengths(inputs: &Inputs) -> [usize; 3] {
     }
 }
 
-/// Part one, or 3, 18, 5, 10, 19.
+/// Part one, or 3, 18, 5, 10, 19, 21.
 pub fn part_one(inputs: &Inputs, out: &mut [u8]) -> Result<(), u8> {
     let [due, _, _] = due_lengths(inputs);
     check(inputs, &Given::default(), &[(out.len(), due)])?;
@@ -290,7 +299,7 @@ pub fn part_one(inputs: &Inputs, out: &mut [u8]) -> Result<(), u8> {
     Ok(())
 }
 
-/// Part two, or 3, 18, 5, 6, 7, 10, 19.
+/// Part two, or 3, 18, 5, 6, 7, 10, 19, 21.
 pub fn part_two(inputs: &Inputs, dice: &[u8], mask: MaskSource, out: &mut [u8]) -> Result<(), u8> {
     let [due_one, due_two, _] = due_lengths(inputs);
     let (given, length_one) = match mask {
@@ -312,7 +321,7 @@ pub fn mask_of(part_two: &[u8]) -> u32 {
     u32::from_be_bytes(part_two[31..35].try_into().unwrap())
 }
 
-/// Part three, or 3, 18, 5, 6, 7, 10, 11, 19.
+/// Part three, or 3, 18, 5, 6, 7, 10, 11, 19, 21.
 pub fn part_three(
     inputs: &Inputs,
     dice: &[u8],

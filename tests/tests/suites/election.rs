@@ -297,10 +297,10 @@ fn limits_of_n() {
 fn refusals_of_each_way() {
     let random = &mut Random::new(239);
     let due: [&[u8]; 4] = [
-        &[3, 5, 6, 7, 10, 11, 18, 19],
-        &[3, 5, 6, 10, 11, 18, 19],
-        &[3, 5, 6, 7, 10, 18, 19],
-        &[3, 5, 6, 10, 18, 19],
+        &[3, 5, 6, 7, 10, 11, 18, 19, 21],
+        &[3, 5, 6, 10, 11, 18, 19, 21],
+        &[3, 5, 6, 7, 10, 18, 19, 21],
+        &[3, 5, 6, 10, 18, 19, 21],
     ];
     for (draws, due) in ALL_DRAWS.into_iter().zip(due) {
         for shape in SHAPES {

@@ -6,13 +6,13 @@ use std::cmp::Ordering;
 use std::collections::BTreeSet;
 
 use crate::subject;
-use paddockyear_tests::boards::damage::{damaged, flipped};
+use paddockyear_tests::boards::damage::{damaged_by, flipped};
 use paddockyear_tests::boards::*;
 use paddockyear_tests::random::Random;
 use paddockyear_tests::reference::judge::Judging;
 use paddockyear_tests::reference::receipt::Posted;
 use paddockyear_tests::reference::tablet::receipt;
-use paddockyear_tests::reference::terms::{Form, Parameters};
+use paddockyear_tests::reference::terms::{Form, Parameters, COPIES_STAND};
 
 /// Ids at which one more byte counts, or the highest bit.
 const IDS: [u32; 6] = [3, 255, 256, 65_536, 0x8000_0000, u32::MAX - 1];
@@ -456,14 +456,14 @@ fn ids_before(record: &[u8], place: usize) -> (Vec<u32>, bool) {
     (ids, all)
 }
 
-/// Whole boards with one fault or two in any command: the check's number, unless the lookup stops
-/// before the fault.
+/// Whole boards with one fault or two in any command, but for copies: the check's number, unless the
+/// lookup stops before the fault.
 #[test]
 fn as_the_check_refuses() {
     let random = &mut Random::new(261);
     let (mut refused, mut passed) = (BTreeSet::new(), BTreeSet::new());
     for _ in 0..2_000 {
-        let (record, fault) = damaged(random, 6, 2, Judging::Plain);
+        let (record, fault) = damaged_by(COPIES_STAND, random, (6, 2), Judging::Plain);
         let (ids, all) = ids_before(&record, fault.place);
         for sought in around(&ids) {
             let hashed = stop(&ids, sought).map_or(&record[..], |j| ballot(&record, j));

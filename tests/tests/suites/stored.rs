@@ -1,19 +1,21 @@
-//! Stored records: one of up to 1,024 ballots that starts with 01 has the verdict, by number and
-//! place, that it had when that was n's limit and there was no 0C; of more ballots it was 3, and of
-//! one that starts with 0C it was 2. The reference judges by either edition.
+//! Stored records: one of up to 1,024 ballots that starts with 01 and has no copied ballot has the
+//! verdict, by number and place, that it had when that was n's limit, there was no 0C and copies
+//! stood; of more ballots it was 3, and of one that starts with 0C it was 2. The reference judges by
+//! either edition.
 
 use std::collections::BTreeSet;
 
 use crate::subject::judge;
-use paddockyear_tests::boards::damage::{breach, breaches, damaged_by, Breach, Forgery, Target};
+use paddockyear_tests::boards::copies::{copy_ballot, copy_commitment, record_of, Slot};
+use paddockyear_tests::boards::damage::{breach, breaches_by, damaged_by, Breach, Forgery, Target};
 use paddockyear_tests::boards::samples::{promised, stored};
-use paddockyear_tests::boards::{honest, inputs, BOTH, ELECTIONS};
+use paddockyear_tests::boards::{honest, inputs, Layout, BOTH, ELECTIONS, FORMS};
 use paddockyear_tests::random::Random;
 use paddockyear_tests::reference::judge::{judge_by, Fault, Judging, JUDGINGS};
 use paddockyear_tests::reference::terms::{
-    sorted, Edition, Form, Parameters, FORMER, FORMER_MAX_BALLOTS, MAX_BALLOTS,
+    sorted, Edition, Form, Parameters, COPIES_STAND, FORMER, FORMER_MAX_BALLOTS, MAX_BALLOTS, NOW,
 };
-use paddockyear_tests::reference::writer::Secrets;
+use paddockyear_tests::reference::writer::{Inputs, Secrets};
 
 /// The verdict by the former edition, but for this limit on n.
 fn judge_within(limit: u32, record: &[u8], judging: Judging) -> Result<Vec<u32>, Fault> {
@@ -38,8 +40,8 @@ fn kept_verdict(record: &[u8], n: u32, judging: Judging) -> Result<Vec<u32>, Fau
 fn of_the_folder() {
     let (numbered, others): (Vec<_>, Vec<_>) =
         stored().unwrap().into_iter().partition(|(name, _)| name.starts_with("numbered-"));
-    assert!(numbered.len() >= 6 && others.len() == 15);
-    for (name, record) in others {
+    assert!(numbered.len() >= 6 && others.len() == 17);
+    for (name, record) in others.into_iter().filter(|(name, _)| promised(name) != Some(21)) {
         let n = u32::from(u16::from_be_bytes([record[5], record[6]]));
         assert!((1..=FORMER_MAX_BALLOTS).contains(&n), "{name}");
         for judging in JUDGINGS {
@@ -106,7 +108,7 @@ fn kept_fault(random: &mut Random, parameters: Parameters, way: Breach, judging:
 fn damaged_in_every_way() {
     let random = &mut Random::new(292);
     for judging in JUDGINGS {
-        for way in breaches(Form::Unnumbered, judging) {
+        for way in breaches_by(COPIES_STAND, Form::Unnumbered, judging) {
             for (n, m) in [(2, 1), (3, 2), (40, 1)] {
                 kept_fault(random, Parameters::unnumbered(100, n, m), way, judging);
             }
@@ -141,7 +143,7 @@ fn damaged_of_many_ballots() {
     let random = &mut Random::new(294);
     let mut met = BTreeSet::new();
     let parameters = Parameters::unnumbered(u32::MAX, FORMER_MAX_BALLOTS, 1);
-    for way in breaches(Form::Unnumbered, Judging::Plain) {
+    for way in breaches_by(COPIES_STAND, Form::Unnumbered, Judging::Plain) {
         if met.insert((way.command, way.number)) {
             kept_fault(random, parameters, way, Judging::Plain);
         }
@@ -165,4 +167,66 @@ fn above_the_former_limit_of_many_ballots() {
             }
         }
     }
+}
+
+/// The former verdict on a board with copies and no other fault, and the one since: the fault lies
+/// in the copying ballot.
+fn refused_since(random: &mut Random, inputs: &Inputs, ballot: usize) {
+    let votes = Ok(sorted(&inputs.votes));
+    let place = Layout::new(&inputs.parameters).ballot(ballot);
+    for judging in JUDGINGS {
+        let record = record_of(random, inputs, judging);
+        assert_eq!(judge(&record, judging), Err(Fault { number: 21, place }), "{judging:?}");
+        assert_eq!(judge_by(COPIES_STAND, &record, judging), votes, "{judging:?}");
+        let former = judge_by(FORMER, &record, judging);
+        match inputs.parameters.form {
+            Form::Unnumbered => assert_eq!(former, votes, "{judging:?}"),
+            Form::Numbered(_) => assert_eq!(former, Err(Fault { number: 2, place: 0 })),
+        }
+    }
+}
+
+/// A ballot cast again, and one commitment of another ballot.
+#[test]
+fn of_copied_ballots() {
+    let random = &mut Random::new(297);
+    for (form, n) in FORMS.into_iter().flat_map(|form| [2, 3, 9].map(|n| (form, n))) {
+        let honest = inputs(random, Parameters { form, modulus: 100, n, m: 1 });
+        for ballot in 1..n as usize {
+            let mut again = honest.clone();
+            let earlier = random.index(ballot);
+            copy_ballot(&mut again, earlier, ballot);
+            refused_since(random, &again, ballot);
+            let mut place = honest.clone();
+            let from = Slot { ballot: earlier, slot: random.index(6) };
+            copy_commitment(&mut place, from, Slot { ballot, slot: random.index(6) });
+            refused_since(random, &place, ballot);
+        }
+    }
+}
+
+/// Boards of both forms with one fault or two. Where none is a copy, number and place are those of
+/// before; a copy was passed over, and what was found then lies behind it.
+#[test]
+fn copies_among_faults_at_random() {
+    let random = &mut Random::new(298);
+    let (mut passed, mut others) = (0, BTreeSet::new());
+    for (edition, judging) in [NOW, COPIES_STAND].into_iter().flat_map(|e| JUDGINGS.map(|j| (e, j)))
+    {
+        for _ in 0..1_000 {
+            let (record, due) = damaged_by(edition, random, (6, 2), judging);
+            assert_eq!(judge(&record, judging), Err(due));
+            let before = judge_by(COPIES_STAND, &record, judging);
+            match (due.number, before) {
+                (21, Ok(_)) => passed += 1,
+                (21, Err(fault)) => {
+                    assert!(fault.place > due.place, "{fault:?} and {due:?}");
+                    others.insert(fault.number);
+                }
+                (_, before) => assert_eq!(before, Err(due)),
+            }
+        }
+    }
+    assert!(passed > 0);
+    assert!(others.is_superset(&BTreeSet::from([1, 4, 6, 7, 8, 9, 13])), "{others:?}");
 }

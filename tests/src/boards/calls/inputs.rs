@@ -1,6 +1,7 @@
 //! Misuses of the inputs that every part and the election are given.
 
 use super::misuse::{drop_last, further, last, Misuse};
+use crate::boards::copies::{copy_ballot, copy_commitment, Slot};
 use crate::reference::terms::{refusal, MAX_BALLOTS, MAX_M};
 use crate::reference::writer::Inputs;
 
@@ -14,6 +15,7 @@ pub fn misuses<C: Given>(ballots: usize) -> Vec<Misuse<C>> {
     let mut all = [limits(), lengths(), numbers(), places()].concat();
     if ballots > 1 {
         all.extend(two_ballots());
+        all.extend(copies());
     }
     all
 }
@@ -103,6 +105,26 @@ fn two_ballots<C: Given>() -> Vec<Misuse<C>> {
         Misuse::new(refusal::PERMUTATION, "place twice", |call| {
             let places = &mut call.inputs().permutations;
             places[0] = places[1];
+        }),
+    ]
+}
+
+/// Rule 21.
+fn copies<C: Given>() -> Vec<Misuse<C>> {
+    let rule = |name, change| Misuse::new(refusal::COPIED_BALLOT, name, change);
+    vec![
+        rule("first ballot cast again", |call| {
+            let last = call.inputs().parameters.ballots() - 1;
+            copy_ballot(call.inputs(), 0, last);
+        }),
+        rule("a commitment of the ballot before", |call| {
+            let (ballot, slot) = (call.inputs().parameters.ballots() - 1, 3);
+            let before = Slot { ballot: ballot - 1, slot: 3 };
+            copy_commitment(call.inputs(), before, Slot { ballot, slot });
+        }),
+        rule("a commitment at another place", |call| {
+            let (from, to) = (Slot { ballot: 0, slot: 5 }, Slot { ballot: 1, slot: 0 });
+            copy_commitment(call.inputs(), from, to);
         }),
     ]
 }

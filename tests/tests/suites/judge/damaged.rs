@@ -16,7 +16,8 @@ const SHAPES: [Parameters; 2] =
 
 /// The rules that a judging meets.
 fn rules(judging: Judging) -> BTreeSet<u8> {
-    (1..=17).filter(|rule| judging == Judging::Drawn || ![8, 12].contains(rule)).collect()
+    let all = (1..=17).chain([21]);
+    all.filter(|rule| judging == Judging::Drawn || ![8, 12].contains(rule)).collect()
 }
 
 #[test]

@@ -167,7 +167,7 @@ fn plainly_as_unnumbered() {
         assert_eq!(judge(&numbered(&record, election), Judging::Plain), Err(due));
         met.insert(due.number);
     }
-    assert!(met.into_iter().eq((1..=17).filter(|rule| ![8, 12].contains(rule))));
+    assert!(met.into_iter().eq((1..=17).chain([21]).filter(|rule| ![8, 12].contains(rule))));
 }
 
 fn any_number(random: &mut Random) -> u32 {

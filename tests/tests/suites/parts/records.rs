@@ -108,7 +108,8 @@ fn of_numbers_at_the_limits() {
     }
 }
 
-/// Ids at both ends, votes all alike, nothing mixed and nothing hidden.
+/// Ids at both ends, votes all alike, nothing mixed and nothing hidden. Only keys tell the ballots
+/// apart, and a ballot has one key.
 #[test]
 fn of_inputs_at_the_limits() {
     let random = &mut Random::new(204);
@@ -116,11 +117,13 @@ fn of_inputs_at_the_limits() {
         let mut inputs = still_inputs(random, Parameters { form, modulus: 2, n: 5, m: 3 });
         check(random, &inputs, draws);
         inputs.ids = vec![0, 1, 1 << 16, u32::MAX - 1, u32::MAX];
-        inputs.keys.fill(0);
+        for (six, key) in inputs.keys.chunks_mut(192).zip((0..5).chain([0].into_iter().cycle())) {
+            six.fill(key);
+        }
         check(random, &inputs, draws);
         inputs.votes.fill(1);
         inputs.numbers.fill(1);
-        inputs.keys.fill(0xFF);
+        inputs.keys.iter_mut().for_each(|byte| *byte = !*byte);
         inputs.permutations.chunks_mut(5).for_each(<[u16]>::reverse);
         check(random, &inputs, draws);
     }
