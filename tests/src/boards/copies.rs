@@ -79,3 +79,19 @@ pub fn commitments(random: &mut Random, ballots: usize) -> Vec<[Commitment; 6]> 
     let mut commitment = || random.bytes(32).try_into().unwrap();
     (0..ballots).map(|_| std::array::from_fn(|_| commitment())).collect()
 }
+
+/// Lets every entry of every list show the commitments of the ballot that it comes from: nothing is
+/// added, and first halves and keys are the ballot's.
+pub fn mirror_ballots(inputs: &mut Inputs) {
+    let Parameters { n, m, .. } = inputs.parameters;
+    let (n, lists) = (n as usize, 2 * m as usize);
+    let moved: Vec<usize> = inputs.permutations[..n].iter().map(|&from| from.into()).collect();
+    let still: Vec<u16> = (0..n as u16).collect();
+    let of_list = [&inputs.permutations[..n], &still, &still].concat();
+    inputs.permutations = of_list.repeat(lists);
+    let (ballots, keys) = (inputs.numbers[..5 * n].to_vec(), inputs.keys[..192 * n].to_vec());
+    let firsts: Vec<u32> = moved.iter().flat_map(|&j| ballots[5 * j + 2..][..3].to_vec()).collect();
+    let entries: Vec<u8> = moved.iter().flat_map(|&j| keys[192 * j..][..192].to_vec()).collect();
+    inputs.numbers = [ballots, [vec![0; 6 * n], firsts].concat().repeat(lists)].concat();
+    inputs.keys = [keys, entries.repeat(lists)].concat();
+}

@@ -7,11 +7,12 @@ use paddockyear_tests::boards::calls::election::ElectionCall;
 use paddockyear_tests::boards::calls::misuse::{
     check_each, check_pairs, misuse_at_random, Misusable, LIMITS_OF_N,
 };
+use paddockyear_tests::boards::copies::*;
 use paddockyear_tests::boards::*;
 use paddockyear_tests::random::Random;
 use paddockyear_tests::reference::judge::Judging;
-use paddockyear_tests::reference::terms::{sorted, Form, Parameters};
-use paddockyear_tests::reference::writer::{mask_of, MaskSource, SidesSource};
+use paddockyear_tests::reference::terms::{sorted, Form, Opening, Parameters};
+use paddockyear_tests::reference::writer::{mask_of, Inputs, MaskSource, SidesSource};
 
 const SHAPES: [Parameters; 2] =
     [Parameters::unnumbered(100, 3, 2), Parameters::numbered(0x0102_0C01, 100, 3, 2)];
@@ -220,10 +221,24 @@ fn order_over_all_calls() {
     let second_dice: Break = |call| call.second_dice.truncate(29);
     let second_die: Break = |call| call.second_dice[0] = b'0';
     let side: Break = |call| call.sides[0] = 2;
+    let again: Break = |call| copy_ballot(&mut call.inputs, 0, 2);
+    let id: Break = |call| call.inputs.ids[1] = call.inputs.ids[0];
     let join: Break = |call| call.buffers[3].clear();
     let random = &mut Random::new(237);
     for (breaks, number) in [
         (&[limits, key, first_dice, join][..], 3),
+        (&[limits, again], 3),
+        (&[key, again], 18),
+        (&[join, again], 18),
+        (&[second_dice, again], 18),
+        (&[id, again], 5),
+        (&[first_die, again], 6),
+        (&[second_die, again], 6),
+        (&[mask, again], 7),
+        (&[number, again], 10),
+        (&[side, again], 11),
+        (&[place, again], 19),
+        (&[again], 21),
         (&[key, place, first_die], 18),
         (&[join, place, first_die, number], 18),
         (&[second_dice, place, number], 18),
@@ -316,5 +331,91 @@ fn refusals_of_each_way() {
             answers.insert(answer(call));
         }
         assert!(answers.remove(&0) && answers.iter().eq(due), "{draws:?}: {answers:?}");
+    }
+}
+
+/// Every draw in both forms answers `number`, 0 for held and accepted.
+#[track_caller]
+fn check_copies(random: &mut Random, inputs: &Inputs, number: u8) {
+    for (shape, draws) in ways() {
+        let parameters = Parameters { form: shape.form, ..inputs.parameters };
+        let call = ElectionCall::of(random, Inputs { parameters, ..inputs.clone() }, draws);
+        assert_eq!(answer(call.clone()), number, "{draws:?} {:?}", shape.form);
+        if number == 0 {
+            check(call, draws);
+        }
+    }
+}
+
+fn any_inputs(random: &mut Random, n: u32) -> Inputs {
+    inputs(random, Parameters::unnumbered(100, n, 1))
+}
+
+/// Each of the six places of an earlier ballot, with each of a later one; and all six.
+#[test]
+fn copied_ballots() {
+    let random = &mut Random::new(285);
+    for (from, slot) in pairs_of_places() {
+        let mut inputs = any_inputs(random, 3);
+        let (earlier, ballot) = random.pick(&[(0, 1), (0, 2), (1, 2)]);
+        let from = Slot { ballot: earlier, slot: from };
+        copy_commitment(&mut inputs, from, Slot { ballot, slot });
+        check_copies(random, &inputs, 21);
+    }
+    for (earlier, later) in [(0, 1), (0, 4), (2, 3), (3, 4)] {
+        let mut inputs = any_inputs(random, 5);
+        copy_ballot(&mut inputs, earlier, later);
+        check_copies(random, &inputs, 21);
+    }
+}
+
+/// Equal ones inside a ballot, every two and all six, and in lists that mirror the ballots.
+#[test]
+fn equal_commitments_that_stand() {
+    let random = &mut Random::new(286);
+    for (ballot, (first, second)) in pairs_inside().enumerate().map(|(k, pair)| (k % 3, pair)) {
+        let mut inputs = any_inputs(random, 3);
+        let from = Slot { ballot, slot: first };
+        copy_commitment(&mut inputs, from, Slot { ballot, slot: second });
+        check_copies(random, &inputs, 0);
+    }
+    let mut inputs = any_inputs(random, 3);
+    for ballot in 0..3 {
+        let opening = inputs.ballot_openings(ballot)[2];
+        put_ballot(&mut inputs, ballot, [opening; 6]);
+        check_copies(random, &inputs, 0);
+    }
+    mirror_ballots(&mut inputs);
+    check_copies(random, &inputs, 0);
+}
+
+/// The number of another ballot with another key, and its key with another number.
+#[test]
+fn equal_numbers_or_equal_keys() {
+    let random = &mut Random::new(287);
+    for byte in [0, 15, 31] {
+        let mut inputs = any_inputs(random, 2);
+        let opening = inputs.ballot_openings(0)[byte % 6];
+        let at = Slot { ballot: 1, slot: random.index(6) };
+        let mut key = opening.key;
+        key[byte] ^= 1;
+        put_opening(&mut inputs, at, Opening { key, ..opening });
+        check_copies(random, &inputs, 0);
+        let number = (opening.number + 1) % 100;
+        put_opening(&mut inputs, at, Opening { number, ..opening });
+        check_copies(random, &inputs, 0);
+        put_opening(&mut inputs, at, opening);
+        check_copies(random, &inputs, 21);
+    }
+}
+
+#[test]
+fn copied_ballots_of_many_ballots() {
+    let random = &mut Random::new(288);
+    for (n, earlier, draws) in [(257, 255, NEITHER), (4096, 0, BOTH)] {
+        let mut inputs = inputs(random, Parameters::unnumbered(u32::MAX, n, 1));
+        let from = Slot { ballot: earlier, slot: 4 };
+        copy_commitment(&mut inputs, from, Slot { ballot: n as usize - 1, slot: 1 });
+        assert_eq!(answer(ElectionCall::of(random, inputs, draws)), 21);
     }
 }

@@ -1,6 +1,8 @@
 //! What a judge answers, plainly and as drawn: the number and the place of the first fault.
 
 mod boundaries;
+mod copies;
+mod copies_of_many_ballots;
 mod damaged;
 mod forms;
 mod honest;

@@ -3,9 +3,10 @@
 use super::{answer, calls, check, run};
 use paddockyear_tests::boards::calls::misuse::check_each;
 use paddockyear_tests::boards::calls::parts::PartCall;
+use paddockyear_tests::boards::copies::{copy_ballot, copy_commitment, put_ballot, Slot};
 use paddockyear_tests::boards::{mistaken, BOTH, FAR_PLACES};
 use paddockyear_tests::random::Random;
-use paddockyear_tests::reference::terms::Parameters;
+use paddockyear_tests::reference::terms::{Opening, Parameters};
 
 const M: u32 = 100;
 const MOST: usize = 4096;
@@ -89,5 +90,44 @@ fn rule_19_far_places() {
             }
         }
         assert!(call == before);
+    }
+}
+
+/// A far ballot with one commitment of another, and the last ballot with all six of the first.
+#[test]
+fn rule_21_far_copies() {
+    for (turn, mut call) in most_ballots(285).into_iter().enumerate() {
+        let before = call.clone();
+        for (earlier, later) in [(0, MOST - 1), (42, 43), (683, 2730), (2730, 2731)] {
+            let (from, to) = ((turn + earlier) % 6, (turn + later + 1) % 6);
+            let six = call.inputs.ballot_openings(later);
+            let from = Slot { ballot: earlier, slot: from };
+            copy_commitment(&mut call.inputs, from, Slot { ballot: later, slot: to });
+            assert_eq!(run(&mut call), Err(21), "{earlier} and {later}");
+            put_ballot(&mut call.inputs, later, six);
+        }
+        assert!(call == before);
+        copy_ballot(&mut call.inputs, 0, MOST - 1);
+        assert_eq!(run(&mut call), Err(21));
+        assert!(call.out == before.out);
+    }
+}
+
+/// One key for all, so that numbers alone tell the ballots apart: they rise or fall.
+#[test]
+fn rule_21_one_key() {
+    let parameters = Parameters::numbered(7, u32::MAX, MOST as u32, 1);
+    let mut call = PartCall::honest(&mut Random::new(286), parameters, (1, BOTH));
+    call.inputs.keys.fill(0);
+    for number in [|k: usize| k as u32, |k: usize| u32::MAX - 1 - k as u32] {
+        for ballot in 0..MOST {
+            let opening = |slot| Opening { key: [0; 32], number: number(6 * ballot + slot) };
+            put_ballot(&mut call.inputs, ballot, std::array::from_fn(opening));
+        }
+        check(&call, 0, |_| ());
+        check(&call, 21, |call| {
+            let (from, to) = (Slot { ballot: 0, slot: 5 }, Slot { ballot: MOST - 1, slot: 0 });
+            copy_commitment(&mut call.inputs, from, to);
+        });
     }
 }

@@ -1,6 +1,7 @@
 //! What the servers' three parts and the draw of the mask answer and write.
 
 mod boundaries;
+mod copies;
 mod draw;
 mod forms;
 mod many_ballots;
