@@ -8,13 +8,14 @@ use std::os::unix::ffi::OsStrExt;
 use std::path::{Path, PathBuf};
 use std::process::{Command, Output, Stdio};
 
+use paddockyear_tests::boards::copies::*;
 use paddockyear_tests::boards::damage::damaged;
 use paddockyear_tests::boards::samples::{promised, stored, with_votes, RANKED};
-use paddockyear_tests::boards::{first_command, form, honest, parameters, BOTH, FORMS};
+use paddockyear_tests::boards::{first_command, form, honest, inputs, parameters, BOTH, FORMS};
 use paddockyear_tests::random::Random;
 use paddockyear_tests::reference::judge::Judging;
 use paddockyear_tests::reference::page::{candidates_of, page, teller_page, LONGEST};
-use paddockyear_tests::reference::terms::Form;
+use paddockyear_tests::reference::terms::{Form, Parameters};
 
 fn program(variable: &str, name: &str) -> PathBuf {
     let built = || Path::new(env!("CARGO_MANIFEST_DIR")).join("../target/bin").join(name);
@@ -161,6 +162,29 @@ fn longest_numbered_input() {
         assert_eq!(printed(&vec![0x0C; length]), due);
         assert_eq!(told("3", &vec![0x0C; length]), due);
     }
+}
+
+/// Both pages of boards with a copied ballot, in both forms; the teller's comes before 20. Equal
+/// commitments inside a ballot stand.
+#[test]
+fn copied_ballots() {
+    let random = &mut Random::new(316);
+    for (form, (from, slot)) in FORMS.into_iter().cycle().zip(pairs_of_places()) {
+        let mut inputs = inputs(random, Parameters { form, modulus: 100, n: 4, m: 1 });
+        let from = Slot { ballot: random.index(3), slot: from };
+        copy_commitment(&mut inputs, from, Slot { ballot: 3, slot });
+        let record = record_of(random, &inputs, Judging::Drawn);
+        assert_eq!(printed(&record), "REFUSED 21\n");
+        for candidates in ["0", "2", "10"] {
+            assert_eq!(told(candidates, &record), "REFUSED 21\n");
+        }
+    }
+    let mut inside = inputs(random, Parameters::numbered(5, 100, 2, 1));
+    let opening = inside.ballot_openings(1)[0];
+    put_ballot(&mut inside, 1, [opening; 6]);
+    let record = record_of(random, &inside, Judging::Drawn);
+    assert!(printed(&record).starts_with("ACCEPTED\nELECTION 5\n"));
+    check(&record);
 }
 
 /// What can't be read, as a folder, gets a line on standard error and no verdict.

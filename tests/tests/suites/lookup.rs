@@ -6,6 +6,7 @@ use std::cmp::Ordering;
 use std::collections::BTreeSet;
 
 use crate::subject;
+use paddockyear_tests::boards::copies::{ballots_alone, commitments};
 use paddockyear_tests::boards::damage::{damaged_by, flipped};
 use paddockyear_tests::boards::*;
 use paddockyear_tests::random::Random;
@@ -479,6 +480,34 @@ fn as_the_check_refuses() {
     }
     assert_eq!(refused, BTreeSet::from([1, 2, 3, 5]));
     assert_eq!(passed, BTreeSet::from([1, 2, 5]));
+}
+
+/// Boards with copied ballots answer as printed for each of them, as the check does; copies before
+/// the stop and at it are passed over.
+#[test]
+fn lookups_of_copied_ballots() {
+    let random = &mut Random::new(267);
+    for (earlier, later) in [(0, 1), (0, 5), (2, 3), (4, 5)] {
+        let mut ballots = commitments(random, IDS.len());
+        ballots[later] = ballots[earlier];
+        let copied = ballots_alone(Form::Unnumbered, &ballots);
+        let mut record = posted(random, &IDS);
+        for (j, id) in IDS.into_iter().enumerate() {
+            let six = place(j) + 5..place(j + 1);
+            record[six.clone()].copy_from_slice(&copied[six]);
+            assert_eq!(record[place(j) + 1..][..4], id.to_be_bytes());
+        }
+        for sought in around(&IDS) {
+            let (printed, due) = (receipts(&record, &IDS, sought), answers(&IDS, sought).map(Ok));
+            assert_eq!(printed.map(|one| look_up(&record, &one)), due, "{sought}");
+            assert_eq!(printed.map(|one| check_receipt(&record, &one)), due, "{sought}");
+            let end = end(&IDS, sought);
+            assert_eq!(printed.map(|one| look_up(&record[..end], &one)), due, "{sought}");
+            assert_eq!(printed.map(|one| look_up(&record[..end - 1], &one)), [Err(1); 2]);
+        }
+        let exchanged = receipt(IDS[later], ballot(&record, earlier));
+        assert_eq!(look_up(&record, &exchanged), Ok(Posted::Otherwise));
+    }
 }
 
 /// The lookup is the check of a record that ends, by its n too, with the ballot at which the lookup

@@ -4,6 +4,7 @@
 use std::collections::BTreeSet;
 
 use crate::subject::{self, tally};
+use paddockyear_tests::boards::copies::*;
 use paddockyear_tests::boards::damage::{breach, breaches, damaged, Forgery, Target};
 use paddockyear_tests::boards::*;
 use paddockyear_tests::random::Random;
@@ -193,6 +194,48 @@ fn receipts_of_both_forms() {
     }
 }
 
+/// Boards with copied ballots answer as printed for each of them, whatever the judge says; faults of
+/// other ballots are found as ever.
+#[test]
+fn receipts_of_copied_ballots() {
+    let random = &mut Random::new(51);
+    for (earlier, later) in [(0, 1), (0, 4), (1, 3), (3, 4)] {
+        let mut inputs = inputs(random, SHAPE);
+        copy_ballot(&mut inputs, earlier, later);
+        let record = record_of(random, &inputs, Judging::Plain);
+        for (j, &id) in inputs.ids.iter().enumerate() {
+            let printed = receipt(id, ballot(&record, j));
+            assert_eq!(check_receipt(&record, &printed), Ok(Posted::AsPrinted));
+            let beside = receipt(u32::MAX, ballot(&record, j));
+            assert_eq!(check_receipt(&record, &beside), Ok(Posted::Not));
+            assert_eq!(check_receipt(&record[..8 + 197 * j], &printed), Err(1));
+            let mut otherwise = record.clone();
+            otherwise[8 + 197 * j] ^= 0x40;
+            assert_eq!(check_receipt(&otherwise, &printed), Err(2));
+        }
+        for (id, other) in [(earlier, later), (later, earlier)] {
+            let printed = receipt(inputs.ids[id], ballot(&record, other));
+            assert_eq!(check_receipt(&record, &printed), Ok(Posted::Otherwise));
+        }
+    }
+}
+
+/// A falling id behind a copy is found, in the copying ballot and in others; and so is one before.
+#[test]
+fn receipts_of_copies_and_ids_that_fall() {
+    let random = &mut Random::new(52);
+    let mut ballots = commitments(random, 5);
+    (ballots[1][2], ballots[3]) = (ballots[0][4], ballots[2]);
+    let record = ballots_alone(Form::Unnumbered, &ballots);
+    let printed = receipt(0, ballot(&record, 0));
+    assert_eq!(check_receipt(&record, &printed), Ok(Posted::AsPrinted));
+    for j in 1..5 {
+        let mut falls = record.clone();
+        falls[9 + 197 * j..][..4].fill(0);
+        assert_eq!(check_receipt(&falls, &printed), Err(5), "ballot {j}");
+    }
+}
+
 #[test]
 fn announced() {
     let board = honest(&mut Random::new(43), SHAPE, NEITHER);
@@ -240,6 +283,31 @@ fn announced_by_many_ballots() {
     assert_eq!(out, [77; 4097]);
     assert_eq!(announced_votes(&record, &mut out[..4096]), Ok(()));
     assert_eq!(out[..4096], sorted(&board.inputs.votes));
+}
+
+/// A board with a copied ballot announces nothing; 21 comes before 18.
+#[test]
+fn announced_by_boards_with_copies() {
+    let random = &mut Random::new(53);
+    for (from, slot) in pairs_of_places() {
+        let mut inputs = inputs(random, SHAPE);
+        let (earlier, ballot) = random.pick(&[(0, 1), (0, 4), (2, 3), (3, 4)]);
+        let from = Slot { ballot: earlier, slot: from };
+        copy_commitment(&mut inputs, from, Slot { ballot, slot });
+        let record = record_of(random, &inputs, Judging::Plain);
+        for length in [5, 4, 6, 0] {
+            let mut out = vec![77; length];
+            assert_eq!(announced_votes(&record, &mut out), Err(21));
+            assert_eq!(out, vec![77; length]);
+        }
+    }
+    let mut inputs = inputs(random, SHAPE);
+    let opening = inputs.ballot_openings(2)[3];
+    put_ballot(&mut inputs, 2, [opening; 6]);
+    let record = record_of(random, &inputs, Judging::Plain);
+    let mut out = [77; 5];
+    assert_eq!(announced_votes(&record, &mut out), Ok(()));
+    assert_eq!(out[..], sorted(&inputs.votes));
 }
 
 /// The plain judge's number comes before 18.
