@@ -1,7 +1,7 @@
 //! Writes boards with the reference's verdicts to standard output: honest and damaged ones of
-//! either form, or with the argument `unnumbered` those of a time without 0C, with `copies` those of
-//! a time when copied ballots stood, and the verdicts of then. Each has its length in 8 bytes, then
-//! for plain and for drawn judging the number in 1 byte and the place in 8, then the record.
+//! either form, or with the argument `unnumbered` those of a time without 0C, with `copies` those
+//! of a time when copied ballots stood, and the verdicts of then. Each has its length in 8 bytes,
+//! then for plain and for drawn judging the number in 1 byte and the place in 8, then the record.
 
 use std::env;
 use std::io::{self, BufWriter, Write};

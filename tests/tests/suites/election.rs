@@ -221,24 +221,10 @@ fn order_over_all_calls() {
     let second_dice: Break = |call| call.second_dice.truncate(29);
     let second_die: Break = |call| call.second_dice[0] = b'0';
     let side: Break = |call| call.sides[0] = 2;
-    let again: Break = |call| copy_ballot(&mut call.inputs, 0, 2);
-    let id: Break = |call| call.inputs.ids[1] = call.inputs.ids[0];
     let join: Break = |call| call.buffers[3].clear();
     let random = &mut Random::new(237);
     for (breaks, number) in [
         (&[limits, key, first_dice, join][..], 3),
-        (&[limits, again], 3),
-        (&[key, again], 18),
-        (&[join, again], 18),
-        (&[second_dice, again], 18),
-        (&[id, again], 5),
-        (&[first_die, again], 6),
-        (&[second_die, again], 6),
-        (&[mask, again], 7),
-        (&[number, again], 10),
-        (&[side, again], 11),
-        (&[place, again], 19),
-        (&[again], 21),
         (&[key, place, first_die], 18),
         (&[join, place, first_die, number], 18),
         (&[second_dice, place, number], 18),
@@ -366,6 +352,33 @@ fn copied_ballots() {
         let mut inputs = any_inputs(random, 5);
         copy_ballot(&mut inputs, earlier, later);
         check_copies(random, &inputs, 21);
+    }
+}
+
+/// Behind every other refusal of any of the three calls.
+#[test]
+fn copied_ballots_come_last() {
+    type Break = fn(&mut ElectionCall);
+    let random = &mut Random::new(289);
+    let breaks: [(u8, Break); 12] = [
+        (3, |call| call.inputs.parameters.m = 13),
+        (18, |call| call.inputs.keys.truncate(192)),
+        (18, |call| call.buffers[3].clear()),
+        (18, |call| call.second_dice.truncate(29)),
+        (5, |call| call.inputs.ids[1] = call.inputs.ids[0]),
+        (6, |call| call.first_dice[29] = b'7'),
+        (6, |call| call.second_dice[0] = b'0'),
+        (7, |call| call.mask = 0),
+        (10, |call| call.inputs.numbers[0] = u32::MAX),
+        (11, |call| call.sides[0] = 2),
+        (19, |call| *call.inputs.permutations.last_mut().unwrap() = u16::MAX),
+        (21, |_| ()),
+    ];
+    for ((number, change), shape) in breaks.into_iter().flat_map(|one| SHAPES.map(|s| (one, s))) {
+        let mut call = ElectionCall::honest(random, shape, NEITHER);
+        copy_ballot(&mut call.inputs, 0, 2);
+        change(&mut call);
+        assert_eq!(answer(call), number, "{:?}", shape.form);
     }
 }
 

@@ -457,8 +457,8 @@ fn ids_before(record: &[u8], place: usize) -> (Vec<u32>, bool) {
     (ids, all)
 }
 
-/// Whole boards with one fault or two in any command, but for copies: the check's number, unless the
-/// lookup stops before the fault.
+/// Whole boards with one fault or two in any command, but for copies: the check's number, unless
+/// the lookup stops before the fault.
 #[test]
 fn as_the_check_refuses() {
     let random = &mut Random::new(261);

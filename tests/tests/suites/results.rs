@@ -194,8 +194,8 @@ fn receipts_of_both_forms() {
     }
 }
 
-/// Boards with copied ballots answer as printed for each of them, whatever the judge says; faults of
-/// other ballots are found as ever.
+/// Boards with copied ballots answer as printed for each of them, whatever the judge says; faults
+/// of other ballots are found as ever.
 #[test]
 fn receipts_of_copied_ballots() {
     let random = &mut Random::new(51);

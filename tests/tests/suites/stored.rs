@@ -1,7 +1,7 @@
 //! Stored records: one of up to 1,024 ballots that starts with 01 and has no copied ballot has the
 //! verdict, by number and place, that it had when that was n's limit, there was no 0C and copies
-//! stood; of more ballots it was 3, and of one that starts with 0C it was 2. The reference judges by
-//! either edition.
+//! stood; of more ballots it was 3, and of one that starts with 0C it was 2. The reference judges
+//! by either edition.
 
 use std::collections::BTreeSet;
 

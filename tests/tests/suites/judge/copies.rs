@@ -179,8 +179,8 @@ fn three_equal_ones() {
     }
 }
 
-/// Two commitments, each in two ballots: the earlier of the copying ballots, whichever of the two is
-/// the smaller, and whichever is copied from an earlier one.
+/// Two commitments, each in two ballots: the earlier of the copying ballots, whichever of the two
+/// is the smaller, and whichever is copied from an earlier one.
 #[test]
 fn two_copies() {
     let random = &mut Random::new(607);
