@@ -176,6 +176,28 @@ fn equal_keys() {
     }
 }
 
+/// Commitments whose first five bytes are equal, or their last five: such openings were searched
+/// for. All bytes of a commitment count.
+#[test]
+fn commitments_that_begin_or_end_alike() {
+    let random = &mut Random::new(652);
+    let opening =
+        |k: u32| Opening { key: k.to_be_bytes().repeat(8).try_into().unwrap(), number: 0 };
+    for (pair, equal) in [([481_402, 1_049_026], 0..5), ([272_240, 405_408], 27..32)] {
+        let [one, other] = pair.map(opening);
+        assert_eq!(one.commitment()[equal.clone()], other.commitment()[equal]);
+        for (first, second) in [(one, other), (other, one)] {
+            let mut inputs = any_inputs(random, 3);
+            let [from, to] = [(0, 2), (2, 5)].map(|(ballot, slot)| Slot { ballot, slot });
+            put_opening(&mut inputs, from, first);
+            put_opening(&mut inputs, to, second);
+            check_written(random, &inputs);
+            put_opening(&mut inputs, to, first);
+            check(random, &inputs, 21);
+        }
+    }
+}
+
 /// One key for all: then the numbers have to differ from ballot to ballot.
 #[test]
 fn one_key_for_all() {
