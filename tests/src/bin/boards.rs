@@ -1,7 +1,8 @@
 //! Writes boards with the reference's verdicts to standard output: honest and damaged ones of
-//! either form, or with the argument `unnumbered` those of a time without 0C, with `copies` those
-//! of a time when copied ballots stood, and the verdicts of then. Each has its length in 8 bytes,
-//! then for plain and for drawn judging the number in 1 byte and the place in 8, then the record.
+//! either form, or with the argument `unnumbered` those of a time without 0C and the verdicts of
+//! then, or with `uncopied` those without copied ballots, of which the verdicts were the same while
+//! copies stood. Each has its length in 8 bytes, then for plain and for drawn judging the number in
+//! 1 byte and the place in 8, then the record.
 
 use std::env;
 use std::io::{self, BufWriter, Write};
@@ -63,7 +64,7 @@ fn main() -> io::Result<()> {
     let out = &mut BufWriter::new(io::stdout().lock());
     let edition = match env::args().nth(1).as_deref() {
         Some("unnumbered") => Edition { numbered: false, ..COPIES_STAND },
-        Some("copies") => COPIES_STAND,
+        Some("uncopied") => COPIES_STAND,
         Some(other) => panic!("no boards are called {other}"),
         None => NOW,
     };

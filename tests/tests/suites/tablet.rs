@@ -50,6 +50,27 @@ fn ids_at_the_limits() {
     }
 }
 
+/// The tablet knows no other ballot: cast again under another id, only the id differs. Six equal
+/// commitments stand.
+#[test]
+fn copied_ballots() {
+    let random = &mut Random::new(74);
+    let first = TabletCall::honest(random);
+    let written = |mut call: TabletCall| {
+        let TabletCall { form, modulus, id, split, keys, command, receipt } = &mut call;
+        assert_eq!(tablet(*form, *modulus, *id, split, keys, command, receipt), Ok(()));
+        call
+    };
+    let again = written(TabletCall { id: first.id ^ 1, ..first.clone() });
+    let first = written(first);
+    assert_eq!(first.command[5..], again.command[5..]);
+    assert_ne!(first.receipt, again.receipt);
+    let split = SplitVote { vote: 6, shares: [2, 2], firsts: [1; 3] };
+    let equal = TabletCall { modulus: 9, split, keys: vec![0x11; 192], ..first };
+    let command = written(equal).command;
+    assert!(command[5..].chunks(32).all(|commitment| commitment == &command[5..37]));
+}
+
 #[test]
 fn every_misuse() {
     let random = &mut Random::new(68);
