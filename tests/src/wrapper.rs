@@ -48,7 +48,7 @@ const RULES: [&str; 22] = [
     "a slice of another length than due",
     "a permutation that is none",
     "the number of candidates outside 1 to 9",
-    "a ballot with a commitment equal to one of an earlier ballot",
+    "a ballot with a commitment equal to one of an earlier ballot, at whichever places",
 ];
 
 fn done(answer: u32) -> Result<(), Refusal> {

@@ -135,7 +135,7 @@ fn refused_ballots() {
     assert_eq!(Refusal(19).to_string(), "rule 19: a permutation that is none");
     let candidates = "rule 20: the number of candidates outside 1 to 9";
     assert_eq!(Refusal(20).to_string(), candidates);
-    let copied = "rule 21: a ballot with a commitment equal to one of an earlier ballot";
+    let copied = "rule 21: a ballot with a commitment equal to one of an earlier ballot, at whichever places";
     assert_eq!(Refusal(21).to_string(), copied);
     assert_eq!(Refusal(22).to_string(), "rule 22: no such rule");
 }
