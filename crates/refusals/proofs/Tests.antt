@@ -2,7 +2,7 @@
 use mathlib.Core.Path.{_≡_, refl, sym, ap, _∙_}
 use mathlib.Core.Bool.{Bool, true, false}
 use mathlib.Core.List.{List}
-use Prim.Native.Nat.{ℕ, _*_}
+use Prim.Native.Nat.{ℕ, _*_, _≤_, _<_}
 use native.Mathlib.Omega.{arith}
 use lib.Dec.{eqb}
 use lib.ListN.{length}
@@ -11,17 +11,23 @@ use Rattle.laws.specs.Tests.{equal, _and_, equal-iff, and-iff, and-last, and-la
 use Rattle.laws.specs.Faults.{rule, rule-go, rule-stop, rules}
 use Rattle.laws.specs.Chunks.{piece}
 use Rattle.protocol.specs.declared.Parameters.{Parameters}
-use Rattle.protocol.specs.Terms.{modulusInLimits, ballotsInLimits, listsInLimits, inLimits}
+use Rattle.protocol.specs.Terms.{modulusInLimits, ballotsInLimits, listsInLimits, inLimits, allBelow}
 use Rattle.protocol.specs.Rules.{fairDice}
 use Rattle.protocol.specs.Inputs.{Slices}
 use Rattle.protocol.specs.Refusals.{dueLengths, binarySides, refusal}
 use Rattle.protocol.specs.Election.{Choice, chosen, drawn, sidesDue, sidesBinary}
+use Rattle.protocol.proofs.Unrefused.{tests}
 use Rattle.layout.specs.Bounds.{Few}
+use Rattle.mixing.specs.Followed.{Votes, Numbers}
 use Rattle.refusals.specs.Contents.{binary, binaryWhere, contentsRefusal, refusal-is}
 
 pub limits-few : (p : Parameters) → inLimits p ≡ true → Few p
 unfolding inLimits modulusInLimits ballotsInLimits listsInLimits
 limits-few p e = let h = simp rules at e in record { ballots = h .1 .0 .1; compared = h .1 .1 .1 }
+
+pub limits-known : (p : Parameters) → inLimits p ≡ true → Few p × (0 < p .modulus)
+unfolding inLimits modulusInLimits ballotsInLimits listsInLimits
+limits-known p e = let h = simp rules at e in (limits-few p e, omega (arith, h .0 .0))
 
 -- ---- lengths as code compares them
 
@@ -39,6 +45,20 @@ thirty dice rest e = equal-iff _ _ .0 (and-iff _ _ .0 e .0)
 pub lengths-are : (s : Slices) → dueLengths s ≡ true → (length (s .ids) ≡ s .parameters .ballots) × (length (s .permutations) ≡ 6 * (s .parameters .compared * s .parameters .ballots))
 unfolding dueLengths
 lengths-are s e = let h = simp rules at e in (h .0, h .1 .1 .1 .0)
+
+-- what rule 21 asks of the slices that have passed the other tests
+pub before-copies : (s : Slices) → Few (s .parameters) → 0 < s .parameters .modulus → dueLengths s ≡ true
+    → (allBelow (s .parameters .modulus) (s .votes) and allBelow (s .parameters .modulus) (s .numbers)) ≡ true
+    → Votes (s .parameters) (s .votes)
+    × (Numbers (s .parameters) (s .numbers) × ((length (s .ids) ≡ s .parameters .ballots) × (192 * s .parameters .ballots ≤ length (s .keys))))
+unfolding dueLengths
+before-copies s few positive e small =
+    let h = simp rules at e in
+    let b = simp tests at small in
+    (
+      record { long = h .1 .0; small = b .0 },
+      (record { few = few .ballots; positive = positive; long = h .1 .1 .0; small = b .1 }, (h .0, omega (arith, h .1 .1 .1 .1))),
+    )
 
 -- ---- a refusal in steps
 

@@ -11,7 +11,7 @@ use Rattle.protocol.specs.declared.Parameters.{Parameters}
 use Rattle.protocol.specs.Terms.{item, allBelow, inLimits}
 use Rattle.protocol.specs.Columns.{isPermutation}
 use Rattle.protocol.specs.Inputs.{Slices}
-use Rattle.protocol.specs.Refusals.{dueLengths, idsRise, allPermutations, refusal}
+use Rattle.protocol.specs.Refusals.{dueLengths, idsRise, allPermutations, allOriginal, refusal}
 use Rattle.protocol.specs.Election.{Choice, chosen, drawn}
 
 -- each number is above the one before
@@ -30,14 +30,14 @@ binaryWhere drawn = true
 unfoldable pub permutationsIn : Parameters → List ℕ → Bool
 permutationsIn p permutations = every (λ c. isPermutation (p .ballots) (item (piece permutations (c * p .ballots) (p .ballots)))) (6 * p .compared)
 
--- rules 5, 6, 7, 10, 11 and 19
+-- rules 5, 6, 7, 10, 11, 19 and 21
 unfoldable pub contentsRefusal : Slices → Bool → Bool → Bool → ℕ
 contentsRefusal s fair shape binary =
     rule 5 (idsRise s)
     (rule 6 fair
     (rule 7 shape
     (rule 10 (allBelow (s .parameters .modulus) (s .votes) and allBelow (s .parameters .modulus) (s .numbers))
-    (rule 11 binary (rule 19 (allPermutations s) kept)))))
+    (rule 11 binary (rule 19 (allPermutations s) (rule 21 (allOriginal s) kept))))))
 
 -- the refusal of document 01 in these steps
 pub refusal-is : (s : Slices) (lengths fair shape binary : Bool)

@@ -1,7 +1,7 @@
 // What each of the writers refuses: the number of the first rule that its inputs, or the lengths of what it is lent, break; 0 where none
 // is broken. Limits are tested first, 3, then lengths, 18, then the rest in rising number.
 ghost use mathlib.Core.Path.{_≡_};
-ghost use Prim.Native.Nat.{_*_};
+ghost use Prim.Native.Nat.{_*_, _<_};
 ghost use lib.ListN.{length};
 ghost use Rattle.laws.specs.Lent.{before};
 ghost use Rattle.laws.specs.Tests.{_and_};
@@ -108,7 +108,7 @@ fn refuse(
     shape: bool,
     binary: bool,
 ) -> u32
-    requires { ⌜ Few p ⌝ }
+    requires { ⌜ Few p × (0 < p .modulus) ⌝ }
     ensures { λ r.
         let s = given p (before ids) (before votes) (before numbers) (before permutations) (before keys) in
         ⌜ r ≡ rule 18 (dueLengths s) (contentsRefusal s fair shape binary) ⌝ }
@@ -136,6 +136,9 @@ fn refuse(
     }
     if !all_permutations(p, permutations) {
         return 19;
+    }
+    if !original::all_original(p, ids, votes, numbers, keys) {
+        return 21;
     }
     0
 }

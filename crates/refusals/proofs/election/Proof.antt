@@ -10,7 +10,7 @@ use Rattle.protocol.specs.Terms.{inLimits}
 use Rattle.protocol.specs.Layout.{recordLength, partOneLength, partTwoLength, partThreeLength}
 use Rattle.protocol.specs.Election.{choiceOf, sidesDue, electionRefusal}
 use Rattle.layout.specs.Bounds.{Few}
-use Rattle.refusals.proofs.Tests.{limits-few, long, pair, thirty, outside, undue, due, fair-whole, binary-where}
+use Rattle.refusals.proofs.Tests.{limits-few, limits-known, long, pair, thirty, outside, undue, due, fair-whole, binary-where}
 use Rattle.refusals.proofs.election.Statement.{statement}
 use Rattle.refusals.proofs.election.Tie as tie
 
@@ -78,5 +78,5 @@ election-spec =
     (λ c κs. search needs)
     (λ c κs. few (c .before .before .before .before .before .before .before .before .before .before .before .before .before .before .before))
     (λ c κs. search needs)
-    (λ c κs. few (c .before .before .before .before .before .before .before .before .before .before .before .before .before .before .before .before .before))
+    (λ c κs. limits-known _ (limits (c .before .before .before .before .before .before .before .before .before .before .before .before .before .before .before .before .before)))
     returns-3)

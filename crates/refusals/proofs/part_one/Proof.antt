@@ -7,7 +7,7 @@ use Rattle.laws.specs.Tests.{is-equal, not-equal, held, failed}
 use Rattle.protocol.specs.Terms.{inLimits}
 use Rattle.protocol.specs.Refusals.{partOneRefusal}
 use Rattle.layout.specs.Bounds.{Few}
-use Rattle.refusals.proofs.Tests.{limits-few, outside, undue, due}
+use Rattle.refusals.proofs.Tests.{limits-few, limits-known, outside, undue, due}
 use Rattle.refusals.proofs.part_one.Statement.{statement}
 use Rattle.refusals.proofs.part_one.Tie as tie
 
@@ -37,5 +37,5 @@ part-one-spec =
     returns
     (λ c κs. few c)
     returns-2
-    (λ c κs. few (c .before .before))
+    (λ c κs. limits-known _ (limits (c .before .before)))
     returns-3)

@@ -9,7 +9,7 @@ use Rattle.protocol.specs.Terms.{inLimits}
 use Rattle.protocol.specs.Layout.{partThreeLength}
 use Rattle.protocol.specs.Refusals.{partThreeRefusal}
 use Rattle.layout.specs.Bounds.{Few}
-use Rattle.refusals.proofs.Tests.{limits-few, long, pair, thirty, outside, undue, due, fair-whole, binary-is}
+use Rattle.refusals.proofs.Tests.{limits-few, limits-known, long, pair, thirty, outside, undue, due, fair-whole, binary-is}
 use Rattle.refusals.proofs.part_three.Statement.{statement}
 use Rattle.refusals.proofs.part_three.Tie as tie
 
@@ -57,5 +57,5 @@ part-three-spec =
     (λ c κs. omega (arith, dice-long c))
     (λ c κs. few (c .before .before .before .before .before .before) .compared)
     (λ c κs. search needs)
-    (λ c κs. few (c .before .before .before .before .before .before .before .before))
+    (λ c κs. limits-known _ (limits (c .before .before .before .before .before .before .before .before)))
     returns-3)

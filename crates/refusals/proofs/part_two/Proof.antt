@@ -9,7 +9,7 @@ use Rattle.protocol.specs.Terms.{inLimits}
 use Rattle.protocol.specs.Layout.{partTwoLength}
 use Rattle.protocol.specs.Refusals.{partTwoRefusal}
 use Rattle.layout.specs.Bounds.{Few}
-use Rattle.refusals.proofs.Tests.{limits-few, long, pair, thirty, outside, undue, due, fair-whole}
+use Rattle.refusals.proofs.Tests.{limits-few, limits-known, long, pair, thirty, outside, undue, due, fair-whole}
 use Rattle.refusals.proofs.part_two.Statement.{statement}
 use Rattle.refusals.proofs.part_two.Tie as tie
 
@@ -51,5 +51,5 @@ part-two-spec =
     returns-2
     (λ c κs. omega (arith, dice-long c))
     (λ c κs. few (c .before .before .before .before) .compared)
-    (λ c κs. few (c .before .before .before .before .before))
+    (λ c κs. limits-known _ (limits (c .before .before .before .before .before)))
     returns-3)

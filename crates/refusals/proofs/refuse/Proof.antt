@@ -7,9 +7,9 @@ use Rattle.laws.specs.Tests.{_and_, and-iff, and-stop, and-go, held, failed}
 use Rattle.laws.specs.Faults.{rule-go, rule-stop}
 use Rattle.protocol.specs.Terms.{allBelow}
 use Rattle.protocol.specs.Inputs.{Slices, given}
-use Rattle.protocol.specs.Refusals.{dueLengths, idsRise}
+use Rattle.protocol.specs.Refusals.{dueLengths, idsRise, allPermutations}
 use Rattle.refusals.specs.Contents.{contentsRefusal}
-use Rattle.refusals.proofs.Tests.{lengths-are}
+use Rattle.refusals.proofs.Tests.{lengths-are, before-copies}
 use Rattle.refusals.proofs.Contents.{rising-is, permutations-in}
 use Rattle.refusals.proofs.refuse.Statement.{statement}
 use Rattle.refusals.proofs.refuse.Tie as tie
@@ -71,7 +71,7 @@ returns-7 c =
     (rule-go _ _ _ (not-false _ (c .before .before .before .before .before .if4 .left)) (rule-go _ _ _ (small (c .before)) (rule-stop _ _ _ (not-true _ (c .if7 .taken)))))))
 
 all-permutations-requires : tie.Need-all-permutations-requires
-all-permutations-requires c κs = (c .before .before .before .before .before .before .before .before .before .before .before .before .before .before .before .before .pre, lengths-are _ (due (c .before .before .before .before .before .before .before .before .before)) .1)
+all-permutations-requires c κs = (c .before .before .before .before .before .before .before .before .before .before .before .before .before .before .before .before .pre .0, lengths-are _ (due (c .before .before .before .before .before .before .before .before .before)) .1)
 
 returns-8 : tie.Need-returns-8
 unfolding contentsRefusal
@@ -84,16 +84,36 @@ returns-8 c =
     (rule-go _ _ _ (not-false _ (c .before .before .if7 .left))
     (rule-stop _ _ _ (sym (permutations-in (slices (c .before .before .before .before .before .before .before .before .before .before .before .before .before .before .before .before .before .before))) ∙ failed (c .before .all-permutations .ensures) (c .if8 .taken))))))))
 
+-- .. and behind test 19
+permuted : (c : tie.Else8) → allPermutations (slices (c .before .before .before .before .before .before .before .before .before .before .before .before .before .before .before .before .before .before)) ≡ true
+permuted c = sym (permutations-in (slices (c .before .before .before .before .before .before .before .before .before .before .before .before .before .before .before .before .before .before))) ∙ held (c .before .all-permutations .ensures) (c .if8 .left)
+
+all-original-requires : tie.Need-all-original-requires
+all-original-requires c κs =
+    let s = c .before .before .before .before .before .before .before .before .before .before .before .before .before .before .before .before .before .before in
+    before-copies (slices s) (s .pre .0) (s .pre .1) (due (c .before .before .before .before .before .before .before .before .before .before .before)) (small (c .before .before .before))
+
 returns-9 : tie.Need-returns-9
 unfolding contentsRefusal
 returns-9 c =
-    rule-go _ _ _ (due (c .before .before .before .before .before .before .before .before .before .before .before))
-    (rule-go _ _ _ (rise (c .before .before .before .before .before .before .before .before .before))
-    (rule-go _ _ _ (not-false _ (c .before .before .before .before .before .before .before .before .if3 .left))
-    (rule-go _ _ _ (not-false _ (c .before .before .before .before .before .before .before .if4 .left))
-    (rule-go _ _ _ (small (c .before .before .before))
-    (rule-go _ _ _ (not-false _ (c .before .before .if7 .left))
-    (rule-go _ _ _ (sym (permutations-in (slices (c .before .before .before .before .before .before .before .before .before .before .before .before .before .before .before .before .before .before))) ∙ held (c .before .all-permutations .ensures) (c .if8 .left)) refl))))))
+    rule-go _ _ _ (due (c .before .before .before .before .before .before .before .before .before .before .before .before .before))
+    (rule-go _ _ _ (rise (c .before .before .before .before .before .before .before .before .before .before .before))
+    (rule-go _ _ _ (not-false _ (c .before .before .before .before .before .before .before .before .before .before .if3 .left))
+    (rule-go _ _ _ (not-false _ (c .before .before .before .before .before .before .before .before .before .if4 .left))
+    (rule-go _ _ _ (small (c .before .before .before .before .before))
+    (rule-go _ _ _ (not-false _ (c .before .before .before .before .if7 .left))
+    (rule-go _ _ _ (permuted (c .before .before)) (rule-stop _ _ _ (failed (c .before .all-original .ensures) (c .if9 .taken)))))))))
+
+returns-10 : tie.Need-returns-10
+unfolding contentsRefusal
+returns-10 c =
+    rule-go _ _ _ (due (c .before .before .before .before .before .before .before .before .before .before .before .before .before))
+    (rule-go _ _ _ (rise (c .before .before .before .before .before .before .before .before .before .before .before))
+    (rule-go _ _ _ (not-false _ (c .before .before .before .before .before .before .before .before .before .before .if3 .left))
+    (rule-go _ _ _ (not-false _ (c .before .before .before .before .before .before .before .before .before .if4 .left))
+    (rule-go _ _ _ (small (c .before .before .before .before .before))
+    (rule-go _ _ _ (not-false _ (c .before .before .before .before .if7 .left))
+    (rule-go _ _ _ (permuted (c .before .before)) (rule-go _ _ _ (held (c .before .all-original .ensures) (c .if9 .left)) refl)))))))
 
 pub refuse-spec : {M : Type 1} → statement M
 refuse-spec =
@@ -112,4 +132,6 @@ refuse-spec =
     returns-7
     all-permutations-requires
     returns-8
-    returns-9)
+    all-original-requires
+    returns-9
+    returns-10)
