@@ -48,16 +48,15 @@ pub fn ballot_faults(bytes: &[u8], p: Parameters, drawn: bool, n: usize) -> Foun
     requires { ⌜ n ≤ mostBallots ⌝ }
     ensures { λ r. ⌜ r ≡ ballotFaults drawn p (before bytes) n ⌝ }
 {
-    let passed = ballots_passed(bytes, p, drawn, n);
-    stopping_fault(bytes, p, drawn, n, passed)
+    let stop = ballots_passed(bytes, p, drawn, n);
+    stopping_fault(bytes, p, drawn, n, stop)
 }
 
-// All ballots, as the judge reads them: rule 21 comes last in each, so that a copy is looked for among those that pass by themselves.
-fn judged_ballots(bytes: &[u8], p: Parameters, drawn: bool) -> Found
-    requires { ⌜ (p .ballots ≤ mostBallots) × (places.firstWidth p ≤ length (now bytes)) ⌝ }
-    ensures { λ r. ⌜ r ≡ judgedBallots drawn p (before bytes) (p .ballots) ⌝ }
+// The same as the judge reads them: rule 21 comes last in each ballot, so that a copy is looked for among those that pass by themselves.
+fn judged_ballots(bytes: &[u8], p: Parameters, drawn: bool, n: usize) -> Found
+    requires { ⌜ (n ≤ mostBallots) × (places.firstWidth p ≤ length (now bytes)) ⌝ }
+    ensures { λ r. ⌜ r ≡ judgedBallots drawn p (before bytes) n ⌝ }
 {
-    let n = p.ballots;
     let passed = ballots_passed(bytes, p, drawn, n);
     let copy = copies::first_copy(bytes, p, passed);
     let Found::Nothing = copy else {
@@ -106,7 +105,7 @@ pub fn part_one_faults(bytes: &[u8], p: Parameters, drawn: bool) -> Found
     requires { ⌜ Few p × (places.firstWidth p ≤ length (now bytes)) ⌝ }
     ensures { λ r. ⌜ r ≡ partOneFaults drawn p (before bytes) ⌝ }
 {
-    let f = judged_ballots(bytes, p, drawn);
+    let f = judged_ballots(bytes, p, drawn, p.ballots);
     let Found::Nothing = f else {
         return f;
     };
