@@ -1,13 +1,15 @@
--- Laws of squeezing: the length of what comes out, and the loops that write it.
+-- Laws of squeezing: the length of what comes out, that it is bytes, and the loops that write it.
 use mathlib.Core.Path.{_≡_, refl, ap, ap₂, _∙_}
 use mathlib.Core.List.{List, [], _∷_, _++_}
 use Prim.Native.Nat.{ℕ, zero, suc, _+_, _*_, _/_, _%_, _^_, _≤_, _<_}
 use native.Mathlib.Nat.{add-zero, add-suc}
 use native.Mathlib.Numerals.{add-one}
 use native.Mathlib.Omega.{arith}
-use lib.ListN.{length, set, take, length-append, length-set}
+use lib.ListN.{length, getD, set, take, length-append, length-set}
 use lib.Seq.{take-suc-set, take-all, take-append-le}
 use lib.Bits.{bitAnd, and-mask}
+use Rattle.laws.specs.Bytes.{Below}
+use Rattle.laws.specs.Tables.{tabulate, get-tabulate}
 use Rattle.keccak.specs.Keccak.{at}
 use Rattle.sha3.specs.Sha3.{byteAt, squeeze}
 use Rattle.sha3.specs.Word.{putLane}
@@ -16,6 +18,17 @@ pub length-squeeze : (l : List ℕ) (n : ℕ) → length (squeeze l n) ≡ n
 unfolding squeeze
 length-squeeze l zero = refl
 length-squeeze l (suc n) = simp (length-append, length-squeeze l n) (omega arith)
+
+-- what comes out is bytes
+squeeze-is : (l : List ℕ) (n : ℕ) → squeeze l n ≡ tabulate (byteAt l) n
+unfolding squeeze tabulate
+squeeze-is l zero = refl
+squeeze-is l (suc n) = ap (λ (x : List ℕ). x ++ (byteAt l n ∷ [])) (squeeze-is l n)
+
+pub squeeze-below : (l : List ℕ) (n : ℕ) → Below 256 (squeeze l n)
+unfolding byteAt
+squeeze-below l n i h =
+    omega (arith, ap (λ (x : List ℕ). getD x i 0) (squeeze-is l n), get-tabulate (byteAt l) n i (omega (arith, length-squeeze l n)))
 
 -- fewer bytes are the first of more
 pub take-squeeze : (l : List ℕ) (d k : ℕ) → take d (squeeze l (d + k)) ≡ squeeze l d

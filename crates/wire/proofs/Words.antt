@@ -9,7 +9,7 @@ use Rattle.laws.specs.Bytes.{number}
 use Rattle.wire.proofs.Halves.{read-on}
 
 -- what stands behind does not change the order
-number-less : (r s : List ℕ) (a b v w : ℕ) → ((i : ℕ) → getD r i 0 < 256) → number r a v < number s b v
+pub number-less : (r s : List ℕ) (a b v w : ℕ) → ((i : ℕ) → getD r i 0 < 256) → number r a v < number s b v
     → number r a (v + w) < number s b (v + w)
 unfolding number
 number-less r s a b v zero small l = rw (add-zero v) l
