@@ -1,5 +1,7 @@
 // What each of the writers refuses: the number of the first rule that its inputs, or the lengths of what it is lent, break; 0 where none
 // is broken. Limits are tested first, 3, then lengths, 18, then the rest in rising number.
+mod original;
+
 ghost use mathlib.Core.Path.{_≡_};
 ghost use Prim.Native.Nat.{_*_, _<_};
 ghost use lib.ListN.{length};
