@@ -54,8 +54,7 @@ pub before-copies : (s : Slices) → Few (s .parameters) → 0 < s .parameters .
 unfolding dueLengths
 before-copies s few positive e small =
     let h = simp rules at e in
-    let b = simp tests at small in
-    (
+    let b = simp tests at small in (
       record { long = h .1 .0; small = b .0 },
       (record { few = few .ballots; positive = positive; long = h .1 .1 .0; small = b .1 }, (h .0, omega (arith, h .1 .1 .1 .1))),
     )

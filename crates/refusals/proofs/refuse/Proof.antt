@@ -11,6 +11,7 @@ use Rattle.protocol.specs.Refusals.{dueLengths, idsRise, allPermutations}
 use Rattle.refusals.specs.Contents.{contentsRefusal}
 use Rattle.refusals.proofs.Tests.{lengths-are, before-copies}
 use Rattle.refusals.proofs.Contents.{rising-is, permutations-in}
+use Rattle.refusals.proofs.Posted.{permutations-apart}
 use Rattle.refusals.proofs.refuse.Statement.{statement}
 use Rattle.refusals.proofs.refuse.Tie as tie
 
@@ -102,7 +103,7 @@ returns-9 c =
     (rule-go _ _ _ (not-false _ (c .before .before .before .before .before .before .before .before .before .if4 .left))
     (rule-go _ _ _ (small (c .before .before .before .before .before))
     (rule-go _ _ _ (not-false _ (c .before .before .before .before .if7 .left))
-    (rule-go _ _ _ (permuted (c .before .before)) (rule-stop _ _ _ (failed (c .before .all-original .ensures) (c .if9 .taken)))))))))
+    (rule-go _ _ _ (permuted (c .before .before)) (rule-stop _ _ _ (sym (permutations-apart (slices (c .before .before .before .before .before .before .before .before .before .before .before .before .before .before .before .before .before .before .before .before))) ∙ failed (c .before .all-original .ensures) (c .if9 .taken)))))))))
 
 returns-10 : tie.Need-returns-10
 unfolding contentsRefusal
@@ -113,7 +114,7 @@ returns-10 c =
     (rule-go _ _ _ (not-false _ (c .before .before .before .before .before .before .before .before .before .if4 .left))
     (rule-go _ _ _ (small (c .before .before .before .before .before))
     (rule-go _ _ _ (not-false _ (c .before .before .before .before .if7 .left))
-    (rule-go _ _ _ (permuted (c .before .before)) (rule-go _ _ _ (held (c .before .all-original .ensures) (c .if9 .left)) refl)))))))
+    (rule-go _ _ _ (permuted (c .before .before)) (rule-go _ _ _ (sym (permutations-apart (slices (c .before .before .before .before .before .before .before .before .before .before .before .before .before .before .before .before .before .before .before .before))) ∙ held (c .before .all-original .ensures) (c .if9 .left)) refl)))))))
 
 pub refuse-spec : {M : Type 1} → statement M
 refuse-spec =
