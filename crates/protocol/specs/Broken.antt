@@ -71,7 +71,8 @@ pub data Broken (copies drawn : Bool) (p : Parameters) (r : List ℕ) : Due → 
   link-ballot : (l j : ℕ) → number r (linkPlace p r l j + 2) 2 ≢ j → Broken copies drawn p r (Link l j) (numbered 4)
   half-ballot : (j : ℕ) → number r (atBallotHalf p j + 1) 2 ≢ j → Broken copies drawn p r (BallotHalf j) (numbered 4)
   half-list : (l j : ℕ) → number r (listHalfPlace p r l j + 1) 1 ≢ l → Broken copies drawn p r (ListHalf l j) (numbered 4)
-  half-position : (l j : ℕ) → number r (listHalfPlace p r l j + 2) 2 ≢ positionOf p r l j → Broken copies drawn p r (ListHalf l j) (numbered 4)
+  half-position : (l j : ℕ) → number r (listHalfPlace p r l j + 2) 2 ≢ positionOf p r l j
+      → Broken copies drawn p r (ListHalf l j) (numbered 4)
   vote-index : (i : ℕ) → number r (atVote p i + 1) 2 ≢ i → Broken copies drawn p r (Vote i) (numbered 4)
   full-list : (l i : ℕ) → number r (fullPlace p r l i + 1) 1 ≢ l → Broken copies drawn p r (FullOpening l i) (numbered 4)
   full-position : (l i : ℕ) → number r (fullPlace p r l i + 2) 2 ≢ i → Broken copies drawn p r (FullOpening l i) (numbered 4)
@@ -94,7 +95,8 @@ pub data Broken (copies drawn : Bool) (p : Parameters) (r : List ℕ) : Due → 
   ballot-number : (j c : ℕ) → c < 3 → p .modulus ≤ opened (ballotOpeningOf p r j c) → Broken copies drawn p r (BallotHalf j) (numbered 10)
   list-number : (l j c : ℕ) → c < 3 → p .modulus ≤ opened (listOpeningOf p r l j c) → Broken copies drawn p r (ListHalf l j) (numbered 10)
   vote : (i : ℕ) → p .modulus ≤ voteOf p r i → Broken copies drawn p r (Vote i) (numbered 10)
-  full-number : (l i q : ℕ) → q < 6 → p .modulus ≤ opened (fullOpeningOf p r l i q) → Broken copies drawn p r (FullOpening l i) (numbered 10)
+  full-number : (l i q : ℕ) → q < 6 → p .modulus ≤ opened (fullOpeningOf p r l i q)
+      → Broken copies drawn p r (FullOpening l i) (numbered 10)
   -- 11 "side byte above 1"
   side : (j : ℕ) → 1 < sideOf p r j → Broken copies drawn p r (BallotHalf j) (numbered 11)
   -- 12 "side not the drawn one", only as drawn

@@ -104,4 +104,5 @@ receiptCommands p = (First ∷ []) ++ joined (λ j. Ballot j ∷ []) (p .ballots
 -- "The receipt check tests its receipt's length (18), then 1 to 5 as the judge.", and so without 21
 pub data ReceiptBroken (r printed : List ℕ) (k : ℕ) : Type 0 where
   other-length : length printed ≢ 32 → k ≡ 18 → ReceiptBroken r printed k
-  as-judge : length printed ≡ 32 → (place : ℕ) → FirstIn false false r (receiptCommands (parametersOf r)) k place → ReceiptBroken r printed k
+  as-judge : length printed ≡ 32 → (place : ℕ) → FirstIn false false r (receiptCommands (parametersOf r)) k place
+      → ReceiptBroken r printed k
