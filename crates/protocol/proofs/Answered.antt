@@ -5,7 +5,7 @@ use mathlib.Core.Logic.{_≢_}
 use mathlib.Core.List.{List, []}
 use Prim.Native.Nat.{ℕ, zero, suc}
 use Rattle.protocol.specs.declared.Written.the-variants.{Done, Refused}
-use Rattle.protocol.specs.Answers.{Answer, done, refused, answerOf, writtenAnswer}
+use Rattle.protocol.specs.Answers.{done, refused, answerOf, writtenAnswer}
 use Rattle.protocol.specs.Refusals.{afterwards}
 
 -- where a rule is broken its number is the answer, and where none is the values are

@@ -16,7 +16,7 @@ use Rattle.protocol.specs.Answers.{answerOf, accepted}
 use Rattle.protocol.specs.Layout.{lists, recordLength}
 use Rattle.protocol.specs.Record.{parametersOf, maskOf}
 use Rattle.protocol.specs.Rules.{faultWith, fault}
-use Rattle.protocol.specs.Judging.{found, foundWith, ifCompared, ifOpened, entryFaults, linkFaults, listHalfFaults, halfFaults, voteFaults, fullFaults, trailingFault, judgedBallots, partOneFaults, partTwoFaults, partThreeFaults, firstFault, judged, firstFaultWith, judgedWith}
+use Rattle.protocol.specs.Judging.{foundWith, ifCompared, ifOpened, entryFaults, linkFaults, listHalfFaults, halfFaults, voteFaults, fullFaults, trailingFault, judgedBallots, partOneFaults, partTwoFaults, partThreeFaults, firstFault, judged, firstFaultWith, judgedWith}
 
 -- no command has a fault, and no byte follows the last
 pub record Faultless (copies drawn : Bool) (p : Parameters) (r : List ℕ) : Type 0 where

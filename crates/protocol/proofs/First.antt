@@ -12,7 +12,6 @@ use Rattle.laws.specs.Tests.{choose, equal, atMost, never, equal-iff, unequal-i
 use Rattle.laws.specs.Faults.{rule, kept, located, _then_, first, numberOf, nothing-fault, rule-kept, located-nothing, located-at, then-nothing, then-go, then-stop, then-end, rule-stop}
 use Rattle.protocol.specs.declared.Parameters.{Parameters}
 use Rattle.protocol.specs.declared.Due.{Due}
-use Rattle.protocol.specs.declared.Due.the-variants.{First, Entry, FirstDice, Link, SecondDice, BallotHalf, ListHalf, Vote, FullOpening, End}
 use Rattle.protocol.specs.Layout.{recordLength}
 use Rattle.protocol.specs.Record.{parametersOf}
 use Rattle.protocol.specs.Rules.{placeOf, fault, faultWith}

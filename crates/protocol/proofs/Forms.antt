@@ -20,7 +20,7 @@ use Rattle.protocol.specs.Answers.{answerOf}
 use Rattle.protocol.specs.Terms.{parameters, item}
 use Rattle.protocol.specs.Layout.{firstCode, numberWidth, firstWidth, atBallot, atEntry, atFirstDice, atLink, atSecondDice, atBallotHalf, atListHalf, atVote, atFullOpening, atEnd, recordLength, partOneLength, partTwoLength, partThreeLength}
 use Rattle.protocol.specs.Record.{formOf, parametersIn, parametersOf}
-use Rattle.protocol.specs.Rules.{inCommand, rules, fault, faultWith}
+use Rattle.protocol.specs.Rules.{inCommand, rules, faultWith}
 use Rattle.protocol.specs.Judging.{found, foundWith, firstFault, judged, firstFaultIn, judgedIn}
 use Rattle.protocol.specs.Demand3.{beforeFirstDice, Triple}
 use Rattle.protocol.proofs.Alike.{parameters-alike, take-less, first-low}

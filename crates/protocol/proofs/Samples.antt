@@ -20,8 +20,8 @@ use Rattle.protocol.specs.Columns.{row, thirdOffset, source, rowServer, 
 use Rattle.protocol.specs.Layout.{firstCode, numberWidth, atFirstDice, atSecondDice, atBallotHalf, atVote, atEnd, recordLength}
 use Rattle.protocol.specs.Record.{formOf, formBytes, firstCommand, entryCommand, firstDiceCommand, linkCommand, secondDiceCommand, ballotHalfCommand, listHalfCommand, voteCommand, fullCommand, parametersOf}
 use Rattle.protocol.specs.Drawing.{hexDigit, hexDigits, drawFrom}
-use Rattle.protocol.specs.Rules.{fairDie, fairDice, rightShape, agrees, fault, faultWith}
-use Rattle.protocol.specs.Judging.{found, foundWith, ballotFaults}
+use Rattle.protocol.specs.Rules.{fairDie, fairDice, rightShape, agrees, faultWith}
+use Rattle.protocol.specs.Judging.{foundWith, ballotFaults}
 use Rattle.protocol.specs.Inputs.{Slices, given, Inputs, ballotNumbers, listNumbers, listPermutations, ballotKeys, entryKeys, inputsOf}
 use Rattle.protocol.specs.Refusals.{dueLengths, idsRise, allPermutations, refusal}
 use Rattle.protocol.specs.Results.{fresh, distinctVotes, voteCounts, receiptRefusal, tallyRefusal, tooLongWord, tallyLine, tallyLines, electionLine, acceptedLines, pageOf, drawRefusal}

@@ -3,17 +3,17 @@ use mathlib.Core.Path.{_≡_, refl}
 use mathlib.Core.Logic.{_↔_}
 use mathlib.Core.Bool.{Bool, true}
 use mathlib.Core.List.{List}
-use Prim.Native.Nat.{ℕ, _+_, _*_}
+use Prim.Native.Nat.{ℕ, _+_}
 use native.Mathlib.Omega.{arith}
 use lib.ListN.{length}
-use Rattle.laws.specs.Tests.{equal, _and_}
+use Rattle.laws.specs.Tests.{_and_}
 use Rattle.laws.specs.Faults.{rules}
 use Rattle.protocol.specs.declared.Parameters.{Parameters}
 use Rattle.protocol.specs.Layout.{recordLength, partOneLength, partTwoLength, partThreeLength, atFirstDice, atSecondDice, atBallotHalf, atVote, atEnd}
 use Rattle.protocol.specs.Drawing.{challenge}
 use Rattle.protocol.specs.Rules.{fairDice, rightShape}
 use Rattle.protocol.specs.Inputs.{Slices}
-use Rattle.protocol.specs.Refusals.{refusal, binarySides, partOneRefusal, partTwoRefusal, partTwoDrawnRefusal, partThreeRefusal, partThreeDrawnRefusal}
+use Rattle.protocol.specs.Refusals.{refusal, partOneRefusal, partTwoRefusal, partTwoDrawnRefusal, partThreeRefusal, partThreeDrawnRefusal}
 use Rattle.protocol.specs.Servers.{firstPart, maskFor}
 use Rattle.protocol.specs.Election.{Choice, chosen, drawn, maskBy, secondRefusal, thirdRefusal, electionMask, maskInShape, sidesDue, sidesBinary, electionRefusal}
 use Rattle.protocol.proofs.Drawing.{drawn-mask}

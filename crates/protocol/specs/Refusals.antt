@@ -5,7 +5,6 @@ use Prim.Native.Nat.{ℕ, zero, suc, _+_, _-_, _*_}
 use lib.ListN.{length}
 use Rattle.laws.specs.Tests.{equal, below, atMost, _and_, _or_, every}
 use Rattle.laws.specs.Faults.{rule, kept}
-use Rattle.protocol.specs.declared.Parameters.{Parameters}
 use Rattle.protocol.specs.Terms.{item, allBelow, inLimits}
 use Rattle.protocol.specs.Columns.{isPermutation}
 use Rattle.protocol.specs.Layout.{lists, partOneLength, partTwoLength, partThreeLength}

@@ -3,7 +3,7 @@ use mathlib.Core.Path.{_≡_, refl, sym, ap, _∙_}
 use mathlib.Core.Logic.{_≢_}
 use mathlib.Core.Bool.{Bool, true, false}
 use mathlib.Core.List.{List}
-use Prim.Native.Nat.{ℕ, suc, _+_, _≤_, _<_}
+use Prim.Native.Nat.{ℕ, suc, _≤_, _<_}
 use native.Mathlib.Numerals.{add-one}
 use native.Mathlib.Omega.{arith}
 use lib.ListN.{length}
@@ -11,7 +11,7 @@ use Rattle.laws.specs.declared.Found.{Found}
 use Rattle.laws.specs.declared.Found.the-variants.{Nothing, Fault}
 use Rattle.laws.specs.Bytes.{number}
 use Rattle.laws.specs.Tests.{equal, pick, is-equal, not-equal}
-use Rattle.laws.specs.Faults.{first, _then_, numberOf, nothing-fault, rule-go, rule-stop, then-go, then-stop, first-more, row-stop, Numbered, numbered}
+use Rattle.laws.specs.Faults.{first, numberOf, nothing-fault, rule-go, rule-stop, then-go, then-stop, first-more, row-stop, Numbered, numbered}
 use Rattle.protocol.specs.declared.Parameters.{Parameters}
 use Rattle.protocol.specs.declared.Due.the-variants.{First, Ballot}
 use Rattle.protocol.specs.Answers.{Answer, done, refused, answerOf, notPosted}

@@ -12,7 +12,7 @@ use Rattle.laws.specs.Faults.{numberOf, nothing-fault, rule-go, rule-stop, Numb
 use Rattle.protocol.specs.declared.Parameters.{Parameters}
 use Rattle.protocol.specs.Answers.{Answer, done, refused}
 use Rattle.protocol.specs.Record.{parametersOf}
-use Rattle.protocol.specs.Judging.{found, foundWith, ballotFaults}
+use Rattle.protocol.specs.Judging.{foundWith, ballotFaults}
 use Rattle.protocol.specs.Results.{receiptRefusal, receiptAmong, receiptChecked}
 use Rattle.protocol.proofs.Answered.{refused-is, done-is}
 use Rattle.results.proofs.Reaching.{headFault}

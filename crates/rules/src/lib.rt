@@ -2,7 +2,7 @@
 // one is told where its command starts, and that the whole of it is there.
 ghost use mathlib.Core.Bool.{false};
 ghost use mathlib.Core.Path.{_≡_};
-ghost use Prim.Native.Nat.{_+_, _*_, _≤_, _<_};
+ghost use Prim.Native.Nat.{_+_, _≤_, _<_};
 ghost use lib.ListN.{length};
 ghost use Rattle.laws.specs.Lent.{before};
 ghost use Rattle.protocol.specs.Layout.{firstWidth, atBallot, atEntry, atSecondDice, atVote};

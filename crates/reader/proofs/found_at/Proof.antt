@@ -2,7 +2,7 @@
 use mathlib.Core.Path.{sym, ap₂, _∙_}
 use borrow.Author.Needs.{needs}
 use Rattle.laws.specs.Faults.{located, located-at, located-nothing}
-use Rattle.protocol.specs.Judging.{found, foundWith}
+use Rattle.protocol.specs.Judging.{foundWith}
 use Rattle.reader.proofs.found_at.Statement.{statement}
 use Rattle.reader.proofs.found_at.Tie as tie
 

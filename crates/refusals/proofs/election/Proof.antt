@@ -5,7 +5,7 @@ use Prim.Native.Nat.{ℕ, _+_}
 use native.Mathlib.Omega.{arith}
 use lib.ListN.{length}
 use borrow.Author.Needs.{needs}
-use Rattle.laws.specs.Tests.{equal, _and_, equal-iff, and-iff, equal-is, held, failed}
+use Rattle.laws.specs.Tests.{equal, _and_, and-iff, equal-is, held, failed}
 use Rattle.protocol.specs.Terms.{inLimits}
 use Rattle.protocol.specs.Layout.{recordLength, partOneLength, partTwoLength, partThreeLength}
 use Rattle.protocol.specs.Election.{choiceOf, sidesDue, electionRefusal}

@@ -1,5 +1,5 @@
 -- `refusals::part_three` meets its contract: limits, lengths, then the rest.
-use mathlib.Core.Path.{_≡_, refl, _∙_}
+use mathlib.Core.Path.{_≡_, _∙_}
 use mathlib.Core.Bool.{true}
 use native.Mathlib.Omega.{arith}
 use lib.ListN.{length}

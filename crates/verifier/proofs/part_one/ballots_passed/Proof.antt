@@ -1,5 +1,5 @@
 -- `verifier::part_one::ballots_passed` meets its contract: no ballot passed has a fault.
-use mathlib.Core.Path.{_≡_, sym, _∙_}
+use mathlib.Core.Path.{_≡_, _∙_}
 use mathlib.Core.Bool.{Bool}
 use mathlib.Core.List.{List}
 use Prim.Native.Nat.{ℕ, _-_, _≤_}
