@@ -6,8 +6,13 @@
 #include <stdio.h>
 #include <stdlib.h>
 
+enum { LAST = 21 };
+
 /* By the form, plain or drawn judging, and the number. */
-static int counts[2][2][18];
+static int counts[2][2][LAST + 1];
+
+/* 18 to 20 are no judge's. */
+static int judged(int number) { return number <= 17 || number == LAST; }
 
 static void compare(const struct posted *board, int drawn) {
     struct verdict found, due = board->due[drawn];
@@ -22,19 +27,19 @@ static void compare(const struct posted *board, int drawn) {
 
 static void print_counts(const char *form, const char *judging, const int *counts) {
     printf("%s, %s judging: accepted %d", form, judging, counts[0]);
-    for (int number = 1; number <= 17; number++) {
-        printf(", %d: %d", number, counts[number]);
+    for (int number = 1; number <= LAST; number++) {
+        if (judged(number)) printf(", %d: %d", number, counts[number]);
     }
     printf("\n");
 }
 
 /* Each form has boards that are accepted and boards refused by every number. */
-static void finish_form(const char *form, int counts[2][18]) {
+static void finish_form(const char *form, int counts[2][LAST + 1]) {
     print_counts(form, "plain", counts[0]);
     print_counts(form, "drawn", counts[1]);
     demand(counts[0][0] > 0 && counts[1][0] > 0, "no board was accepted");
-    for (int number = 1; number <= 17; number++) {
-        demand(counts[1][number] > 0, "a rule was not met");
+    for (int number = 1; number <= LAST; number++) {
+        demand(!judged(number) || counts[1][number] > 0, "a rule was not met");
     }
 }
 

@@ -26,7 +26,8 @@ enum refusal {
     HALVES,
     VOTE_FALLS,
     OPENED_LIST,
-    BEHIND
+    BEHIND,
+    COPIED = 21
 };
 
 #define TRY(step)                                                                                  \
@@ -223,16 +224,60 @@ static int parameters(struct board *b) {
     return 0;
 }
 
-static int ballots(struct board *b) {
+/* How many are whole, with rising ids: all of them, or those before the fault that is answered. */
+static int read_ballots(struct board *b, uint32_t *whole) {
     uint32_t before = 0;
-    for (uint32_t ballot = 0; ballot < b->n; ballot++) {
+    for (*whole = 0; *whole < b->n; ++*whole) {
         const uint8_t *operands;
         TRY(command(b, 0x02, 196, &operands));
         uint32_t id = number_at(operands, 4);
-        DEMAND(ballot == 0 || id > before, ID);
+        DEMAND(*whole == 0 || id > before, ID);
         before = id;
     }
     return 0;
+}
+
+/* A commitment and whose it is. */
+struct committed {
+    const uint8_t *commitment;
+    uint32_t ballot;
+};
+
+/* By the bytes, equal ones by their ballots. */
+static int by_commitment(const void *a, const void *b) {
+    const struct committed *x = a, *y = b;
+    int order = memcmp(x->commitment, y->commitment, COMMITMENT);
+    return order != 0 ? order : (x->ballot > y->ballot) - (x->ballot < y->ballot);
+}
+
+/* The first ballot, of so many, that has a commitment of an earlier one; if none has, their number.
+ * Equal ones stand together, ballots rising: a copy is where another ballot follows. */
+static uint32_t first_copying(const struct board *b, uint32_t whole) {
+    static struct committed sorted[6 * MAX_BALLOTS];
+    size_t count = 6 * (size_t)whole;
+    for (size_t i = 0; i < count; i++) {
+        uint32_t ballot = (uint32_t)(i / 6);
+        const uint8_t *commitment = ballot_commitments(b, ballot) + COMMITMENT * (i % 6);
+        sorted[i] = (struct committed){commitment, ballot};
+    }
+    qsort(sorted, count, sizeof *sorted, by_commitment);
+    uint32_t first = whole;
+    for (size_t i = 1; i < count; i++) {
+        const struct committed *one = &sorted[i - 1], *next = &sorted[i];
+        if (next->ballot >= first || next->ballot == one->ballot) continue;
+        if (memcmp(one->commitment, next->commitment, COMMITMENT) == 0) first = next->ballot;
+    }
+    return first;
+}
+
+/* A copy goes before the fault that ended the reading, which is further on. */
+static int ballots(struct board *b) {
+    uint32_t whole;
+    int number = read_ballots(b, &whole);
+    uint32_t copying = first_copying(b, whole);
+    if (copying == whole) return number;
+    b->place = b->first_ballot + 197 * (size_t)copying;
+    return COPIED;
 }
 
 static int lists(struct board *b) {
