@@ -1,7 +1,9 @@
 /* Times of the product's judge and of the C judge over OpenSSL, both as drawn, on boards of either
  * form, taken in turn in one run: their ratios, those of one form to the other, the growth from
- * board to board and from the first to the last, and the stack that the product's judge uses. */
+ * board to board and from the first to the last, and the stack that the product's judge uses. Then
+ * those of boards that are bad for rule 21, judged plainly, each as a share of an honest one's. */
 
+#include "copies.h"
 #include "inputs.h"
 #include "judge.h"
 #include "support.h"
@@ -9,18 +11,25 @@
 #include <math.h>
 #include <stdio.h>
 #include <stdlib.h>
+#include <string.h>
 
 #define RATIO_AIM 0.85
 #define FORMS_AIM 1.02
 #define GROWTH_AIM 4.2
+#define SHARE_AIM 0.10
 
-enum { REPETITIONS = 16 };
+enum { REPETITIONS = 16, BAD_RUNS = 8 };
 
+/* With the number that plain judging gives. */
 static struct board {
     uint8_t *record;
     size_t length;
+    uint32_t due;
     double ours, plain_c;
 } boards[FORMS][SIZES];
+
+/* Judged plainly; the bad ones come one after the other to the same place. */
+static struct board honest, bad[BAD_BOARDS];
 
 /* The one that is judged. */
 static const struct board *board;
@@ -40,7 +49,7 @@ static struct board write_board(int form, int size) {
     of.parts.joined = malloc(of.parts.joined_length);
     demand(of.parts.joined != NULL, "no memory");
     demand(paddockyear_hold(&of.in, &of.throws, &of.parts) == 0, "the election is refused");
-    return (struct board){of.parts.joined, of.parts.joined_length, INFINITY, INFINITY};
+    return (struct board){of.parts.joined, of.parts.joined_length, 0, INFINITY, INFINITY};
 }
 
 static void write_boards(void) {
@@ -62,6 +71,46 @@ static void time_boards(void) {
         for (int size = 0; size < SIZES; size++) {
             unsigned runs = MOST / (LEAST << size);
             for (int form = 0; form < FORMS; form++) time_board(&boards[form][size], runs);
+        }
+    }
+}
+
+static void ours_plainly(void) {
+    uint32_t number = paddockyear_judge_plainly(board->record, board->length);
+    demand(number == board->due, "our judge finds otherwise");
+}
+
+static void plain_c_plainly(void) {
+    size_t place;
+    int number = judge(board->record, board->length, 0, &place);
+    demand((uint32_t)number == board->due, "the C judge finds otherwise");
+}
+
+/* The honest board of their size and form, and the bad ones in a copy of it. */
+static void make_bad(void) {
+    honest = boards[PLAIN][SIZES - 1];
+    honest.ours = honest.plain_c = INFINITY;
+    uint8_t *copy = malloc(honest.length);
+    demand(copy != NULL, "no memory");
+    memcpy(copy, honest.record, honest.length);
+    make_bad_boards();
+    for (int i = 0; i < BAD_BOARDS; i++) {
+        bad[i] = (struct board){copy, honest.length, bad_boards[i].due, INFINITY, INFINITY};
+    }
+}
+
+static void time_plainly(struct board *of, unsigned runs) {
+    board = of;
+    of->ours = smaller(time_each(ours_plainly, runs), of->ours);
+    of->plain_c = smaller(time_each(plain_c_plainly, runs), of->plain_c);
+}
+
+static void time_bad(void) {
+    for (int repetition = 0; repetition < REPETITIONS; repetition++) {
+        time_plainly(&honest, 1);
+        for (int i = 0; i < BAD_BOARDS; i++) {
+            put_commitments(i, bad[i].record);
+            time_plainly(&bad[i], BAD_RUNS);
         }
     }
 }
@@ -108,6 +157,17 @@ static void print_stack(void) {
            PADDOCKYEAR_STACK_JUDGING);
 }
 
+static void print_bad(void) {
+    printf("Judging 01 plainly, n = %d     ours %9.3f ms   C judge %9.3f ms   ratio %.3f\n", MOST,
+           1e3 * honest.ours, 1e3 * honest.plain_c, honest.ours / honest.plain_c);
+    for (int i = 0; i < BAD_BOARDS; i++) {
+        printf("The same, %-18s   ours %9.3f ms   C judge %9.3f ms   share %.3f, of C judge %.3f",
+               bad_boards[i].name, 1e3 * bad[i].ours, 1e3 * bad[i].plain_c,
+               bad[i].ours / honest.ours, bad[i].plain_c / honest.plain_c);
+        printf(" (aim for ours: at most %.2f)\n", SHARE_AIM);
+    }
+}
+
 int main(void) {
     demand(judge_start(), "no SHA-3 in OpenSSL");
     write_boards();
@@ -118,6 +178,9 @@ int main(void) {
     for (int size = 0; size < SIZES; size++) print_forms(size);
     for (int form = 0; form < FORMS; form++) print_growths(form);
     print_stack();
+    make_bad();
+    time_bad();
+    print_bad();
     judge_stop();
     return 0;
 }

@@ -15,8 +15,8 @@
 
 enum { REPETITIONS = 16, PARTS = 3, SEED = 86, OPENING = 36 };
 
-/* Of a ballot, and of an entry of each list. */
-enum { COMMITMENTS = 6 * (1 + LISTS) };
+/* Commitments of a ballot, and of it with an entry of each list. */
+enum { OF_BALLOT = 6, COMMITMENTS = OF_BALLOT * (1 + LISTS) };
 
 #define LENT(array) (array), sizeof(array) / sizeof((array)[0])
 
@@ -73,11 +73,18 @@ static void write_all(void) {
     demand(answer == 0, "the election is refused");
 }
 
-/* Every commitment. */
-static void hash_one(void) {
+/* So many commitments for each ballot. */
+static void hash_openings(size_t each) {
     uint8_t digest[32];
-    size_t count = (size_t)COMMITMENTS * board->of.in.ballots;
+    size_t count = each * board->of.in.ballots;
     for (size_t i = 0; i < count; i++) paddockyear_sha3_256(LENT(openings[i]), digest);
+}
+
+/* The ballots' commitments, which each part makes for its test of copies, and then all that it
+ * posts. */
+static void hash_one(void) {
+    hash_openings(OF_BALLOT);
+    hash_openings(COMMITMENTS);
 }
 
 /* Of a number of up to four digits. */
@@ -87,18 +94,20 @@ static void hash_draw(uint32_t number) {
     paddockyear_sha3_224(message, digits + SEED + 1, digest);
 }
 
-/* Part one, and a draw for each list. */
+/* The ballots' commitments, part one, and a draw for each list. */
 static void hash_two(void) {
     const struct paddockyear_parts *lent = &board->of.parts;
     uint8_t digest[28];
+    hash_openings(OF_BALLOT);
     paddockyear_sha3_224(lent->one, lent->one_length, digest);
     for (uint32_t list = 0; list < LISTS; list++) hash_draw(list);
 }
 
-/* Parts one and two, and a draw for each ballot. */
+/* The ballots' commitments, parts one and two, and a draw for each ballot. */
 static void hash_three(void) {
     const struct paddockyear_parts *lent = &board->of.parts;
     uint8_t digest[28];
+    hash_openings(OF_BALLOT);
     paddockyear_sha3_224_parts(lent->one, lent->one_length, lent->two, lent->two_length, message, 0,
                                digest);
     for (uint32_t ballot = 0; ballot < board->of.in.ballots; ballot++) hash_draw(ballot + 1);
