@@ -1,7 +1,7 @@
 /* What include/paddockyear.h says beside the calls that officer.c makes: the words for each number, the lengths, empty slices with null
  * pointers, inputs that overlap, lane order, places of faults, what lies behind a tally's last pair or a runoff's table, the functions over
- * structs beside the long ones, and the two forms of a record, by themselves and beside each other. It is compiled as C99 and as C++; a
- * call that answers anything else than due ends it with 1. */
+ * structs beside the long ones, copied ballots, and the two forms of a record, by themselves and beside each other. It is compiled as C99
+ * and as C++; a call that answers anything else than due ends it with 1. */
 
 #include "paddockyear.h"
 
@@ -10,6 +10,7 @@
 #include <string.h>
 
 enum { M = 9, N = 3, COMPARED = 2 };
+enum { BALLOT = PADDOCKYEAR_COMMAND_LENGTH, KEYS = PADDOCKYEAR_BALLOT_KEYS_LENGTH, KEY = 32, LAST_RULE = 21 };
 
 #define LENGTH(array) (sizeof(array) / sizeof((array)[0]))
 #define LENT(array) (array), LENGTH(array)
@@ -64,9 +65,21 @@ static struct paddockyear_parts lent_parts(void) {
 }
 
 static void say_rules(void) {
-    static const uint32_t others[] = {21, 100, 101, 102, 103, UINT32_MAX};
-    for (uint32_t number = 0; number <= 20; number++) printf("%lu %s\n", (unsigned long)number, paddockyear_rule(number));
+    static const uint32_t others[] = {LAST_RULE + 1, 100, 101, 102, 103, UINT32_MAX};
+    for (uint32_t number = 0; number <= LAST_RULE; number++) printf("%lu %s\n", (unsigned long)number, paddockyear_rule(number));
     for (size_t i = 0; i < LENGTH(others); i++) printf("%lu %s\n", (unsigned long)others[i], paddockyear_rule(others[i]));
+}
+
+static uint32_t same_words(uint32_t a, uint32_t b) { return strcmp(paddockyear_rule(a), paddockyear_rule(b)) == 0; }
+
+/* Each number has words, and they are its own. */
+static void compare_words(void) {
+    EXPECT(LAST_RULE, PADDOCKYEAR_RULE_COPIED_BALLOT);
+    for (uint32_t number = 0; number <= LAST_RULE; number++) {
+        EXPECT(0, same_words(number, UINT32_MAX));
+        for (uint32_t other = 0; other < number; other++) EXPECT(0, same_words(number, other));
+    }
+    report("words for each number");
 }
 
 /* The lengths of the scope document's samples, and the widest; with an election's number, 4 bytes more. */
@@ -90,10 +103,15 @@ static void try_lengths(void) {
     report("lengths");
 }
 
+/* The ballots have the same numbers, and keys of their own. */
 static void fill_inputs(void) {
+    uint32_t state = 1;
     for (size_t i = 0; i < LENGTH(numbers); i++) numbers[i] = (uint32_t)(7 * i + i / 5) % M;
     for (size_t i = 0; i < LENGTH(permutations); i++) permutations[i] = (uint16_t)((i + i / N) % N);
-    for (size_t i = 0; i < LENGTH(keys); i++) keys[i] = (uint8_t)(i * i / 3);
+    for (size_t i = 0; i < LENGTH(keys); i++) {
+        state = state * 1664525 + 1013904223;
+        keys[i] = (uint8_t)(state >> 24);
+    }
 }
 
 /* The first and the last byte of a digest. */
@@ -398,6 +416,132 @@ static void run_off(void) {
     report("runoffs");
 }
 
+/* Fills or looks for what a refused call must leave. */
+static void fill_buffers(void) {
+    memset(one, 0xA5, sizeof one), memset(two, 0xA5, sizeof two), memset(three, 0xA5, sizeof three), memset(joined, 0xA5, sizeof joined);
+}
+
+static uint32_t filled(const uint8_t *bytes, size_t length) {
+    uint32_t same = 1;
+    for (size_t i = 0; i < length; i++) same &= bytes[i] == 0xA5;
+    return same;
+}
+
+/* ---- Copied ballots */
+
+/* What the ballots of the inputs are made of, to be changed. */
+static struct ballots {
+    uint32_t votes[N], numbers[PADDOCKYEAR_NUMBERS_LENGTH(N, COMPARED)];
+    uint8_t keys[PADDOCKYEAR_KEYS_LENGTH(N, COMPARED)];
+} changed, kept;
+
+/* As they are. */
+static struct paddockyear_inputs unchanged_inputs(void) {
+    struct paddockyear_inputs in = lent_inputs();
+    memcpy(changed.votes, votes, sizeof votes), memcpy(changed.numbers, numbers, sizeof numbers), memcpy(changed.keys, keys, sizeof keys);
+    in.votes = changed.votes, in.numbers = changed.numbers, in.keys = changed.keys;
+    return in;
+}
+
+/* Every writing call is refused by 21, and leaves all lent bytes. */
+static void be_refused_by_all(const struct paddockyear_inputs *in) {
+    struct paddockyear_throws throws = lent_throws();
+    struct paddockyear_parts parts = lent_parts();
+    kept = changed;
+    fill_buffers();
+    write_by_all(21, in, &throws, &parts);
+    throws.mask_given = throws.sides_given = 0;
+    EXPECT(21, paddockyear_hold(in, &throws, &parts));
+    EXPECT(1, filled(LENT(one)) && filled(LENT(two)) && filled(LENT(three)) && filled(LENT(joined)));
+    EXPECT(0, (uint32_t)memcmp(&changed, &kept, sizeof kept));
+}
+
+/* The first ballot as the second one too, its vote, numbers and keys; and the first one's u1 with its key as v3 of the third. */
+static void copy_inputs(void) {
+    struct paddockyear_inputs in = unchanged_inputs();
+    struct paddockyear_throws throws = lent_throws();
+    struct paddockyear_parts parts = lent_parts();
+    uint16_t none[LENGTH(permutations)] = {0};
+    uint32_t *third = changed.numbers + 2 * 5; /* x, y, u1, u2, u3; v3 = vote - x - y - u3 */
+    changed.votes[1] = changed.votes[0];
+    memcpy(changed.numbers + 5, changed.numbers, 5 * sizeof changed.numbers[0]);
+    memcpy(changed.keys + KEYS, changed.keys, KEYS);
+    be_refused_by_all(&in);
+    in.permutations = none; /* 19 goes before 21 */
+    write_by_all(19, &in, &throws, &parts);
+    in = unchanged_inputs();
+    third[4] = (changed.votes[2] + 3 * M - third[0] - third[1] - changed.numbers[2]) % M;
+    memcpy(changed.keys + 2 * KEYS + 5 * KEY, changed.keys, KEY);
+    be_refused_by_all(&in);
+    third[4] = (third[4] + 1) % M; /* the key alone makes no copy */
+    write_by_all(0, &in, &throws, &parts);
+    report("copied ballots in the servers' inputs");
+}
+
+/* One commitment in all six places of the first ballot stands: six numbers 0, six equal keys. */
+static void commit_alike_inside(void) {
+    struct paddockyear_inputs in = unchanged_inputs();
+    struct paddockyear_throws throws = lent_throws();
+    struct paddockyear_parts parts = lent_parts();
+    const uint8_t *commitments = joined + first_length() + 5;
+    changed.votes[0] = 0;
+    memset(changed.numbers, 0, 5 * sizeof changed.numbers[0]);
+    for (int key = 1; key < 6; key++) memcpy(changed.keys + key * KEY, changed.keys, KEY);
+    write_by_all(0, &in, &throws, &parts);
+    for (int place = 1; place < 6; place++) EXPECT(0, (uint32_t)memcmp(commitments + place * 32, commitments, 32));
+    EXPECT(0, paddockyear_judge_plainly(joined, record_length()));
+    report("equal commitments inside a ballot");
+}
+
+/* Both judgings of joined, or of its first bytes, stop at this ballot by this number. */
+static void stop_at(uint32_t due, size_t ballot, size_t length) {
+    uint64_t place = 77;
+    for (uint32_t drawn = 0; drawn < 2; drawn++) {
+        EXPECT(due, paddockyear_first_fault(joined, length, drawn, &place));
+        EXPECT((uint32_t)(first_length() + BALLOT * ballot), (uint32_t)place);
+    }
+    EXPECT(due, paddockyear_judge_plainly(joined, length));
+    EXPECT(due, paddockyear_judge_as_drawn(joined, length));
+}
+
+/* A copied ballot is posted, and so its receipt is answered. */
+static void ask_for_copy(const uint8_t *command) {
+    uint8_t receipt[PADDOCKYEAR_RECEIPT_LENGTH];
+    memcpy(receipt, command + 1, 4);
+    paddockyear_sha3_224(command, BALLOT, receipt + 4);
+    EXPECT(0, paddockyear_check_receipt(joined, record_length(), LENT(receipt)));
+    EXPECT(0, paddockyear_look_up(joined, record_length(), LENT(receipt)));
+}
+
+/* joined is an accepted record, into which commitments are copied; an id is not. */
+static void post_copies(void) {
+    static uint8_t posted[sizeof joined];
+    struct paddockyear_inputs in = lent_inputs();
+    struct paddockyear_throws throws = lent_throws();
+    struct paddockyear_parts parts = lent_parts();
+    uint8_t *first = joined + first_length(), *second = first + BALLOT, *third = second + BALLOT;
+    size_t length = record_length(), behind_second = first_length() + 2 * BALLOT;
+    uint32_t out[N] = {90, 91, 92};
+    EXPECT(0, paddockyear_hold(&in, &throws, &parts));
+    memcpy(third + 5 + 5 * 32, first + 5, 32);
+    stop_at(21, 2, length);
+    memcpy(second + 5, first + 5, 6 * 32);
+    memcpy(posted, joined, sizeof joined);
+    stop_at(21, 1, length);
+    EXPECT(21, paddockyear_announced_votes(joined, length, LENT(out)));
+    EXPECT(1, out[0] == 90 && out[1] == 91 && out[2] == 92);
+    ask_for_copy(first);
+    ask_for_copy(second);
+    EXPECT(0, (uint32_t)memcmp(joined, posted, sizeof posted));
+    stop_at(21, 1, behind_second);
+    stop_at(1, 1, behind_second - 1); /* 1, 2 and 5 go before 21 in a ballot */
+    second[4] = first[4];
+    stop_at(5, 1, length);
+    second[0] = 0;
+    stop_at(2, 1, length);
+    report("copied ballots on a board");
+}
+
 /* ---- The two forms beside each other */
 
 /* What all writing calls leave in one form, mask and sides given [0] and drawn [1]; a receipt and a part one are not drawn. */
@@ -472,17 +616,6 @@ static void compare_bytes(void) {
         EXPECT(elections[i], (uint32_t)number[0] << 24 | (uint32_t)number[1] << 16 | (uint32_t)number[2] << 8 | number[3]);
     }
     report("bytes of the two forms");
-}
-
-/* Fills or looks for what a refused call must leave. */
-static void fill_buffers(void) {
-    memset(one, 0xA5, sizeof one), memset(two, 0xA5, sizeof two), memset(three, 0xA5, sizeof three), memset(joined, 0xA5, sizeof joined);
-}
-
-static uint32_t filled(const uint8_t *bytes, size_t length) {
-    uint32_t same = 1;
-    for (size_t i = 0; i < length; i++) same &= bytes[i] == 0xA5;
-    return same;
 }
 
 /* Buffers of the length that the other form has, there being room for either: 18, and nothing is written. */
@@ -572,6 +705,9 @@ static void try_form(uint32_t flag, uint32_t number) {
     find_faults();
     ask_for_receipts();
     take_results();
+    copy_inputs();
+    commit_alike_inside();
+    post_copies();
 }
 
 static void compare_forms(void) {
@@ -586,6 +722,7 @@ static void compare_forms(void) {
 
 int main(void) {
     say_rules();
+    compare_words();
     try_lengths();
     fill_inputs();
     hash_nothing();

@@ -188,14 +188,26 @@ static void draw_under_other_number(void) {
     printf("mask drawn for the ballots of election 41 under number 42: %" PRIu32 "\n", mask);
 }
 
-static void be_refused(struct election *of) {
+static void be_refused(struct election *of, uint32_t due, const char *what) {
     const struct paddockyear_inputs in = inputs_of(of);
     const struct paddockyear_parts parts = parts_of(of);
-    of->permutations[0] = of->permutations[1];
     memset(of->one, 0xA5, sizeof of->one);
-    expect(19, paddockyear_write_one(&in, &parts), "part_one");
+    expect(due, paddockyear_write_one(&in, &parts), "part_one");
     for (size_t i = 0; i < sizeof of->one; i++) demand(of->one[i] == 0xA5, "the buffer is unchanged");
-    printf("a permutation that is none: refused with 19, the buffer unchanged\n");
+    printf("%s: refused with %" PRIu32 ", the buffer unchanged\n", what, due);
+}
+
+static void spoil_permutation(struct election *of) {
+    of->permutations[0] = of->permutations[1];
+    be_refused(of, 19, "a permutation that is none");
+}
+
+/* What a tablet sent of the first ballot, taken for the second one too. */
+static void feed_ballot_twice(struct election *of) {
+    of->votes[1] = of->votes[0];
+    memcpy(of->numbers + NUMBERS, of->numbers, NUMBERS * sizeof of->numbers[0]);
+    memcpy(of->keys + KEYS, of->keys, KEYS);
+    be_refused(of, 21, "a ballot fed twice");
 }
 
 int main(void) {
@@ -206,6 +218,7 @@ int main(void) {
     have_election(&second);
     compare_boards();
     draw_under_other_number();
-    be_refused(&first);
+    spoil_permutation(&first);
+    feed_ballot_twice(&second);
     return fflush(stdout) == 0 && !ferror(stdout) ? 0 : 1;
 }

@@ -113,11 +113,20 @@ static const struct row without_record[] = {
 /* With less than they need, which shows that a thread has no more than it is given. */
 static const struct row starved[] = {ROW(sha3_256, 1 * KIB), ROW(judge_as_drawn, 32 * KIB), ROW(election, 32 * KIB)};
 
+/* Every ballot has keys of its own, or it would be refused as a copy. */
+static void fill_keys(void) {
+    uint32_t state = 1;
+    for (size_t i = 0; i < LENGTH(keys); i++) {
+        state = state * 1664525 + 1013904223;
+        keys[i] = (uint8_t)(state >> 24);
+    }
+}
+
 static void fill(void) {
     for (size_t i = 0; i < BALLOTS; i++) ids[i] = (uint32_t)i, votes[i] = (uint32_t)i % 7;
     for (size_t i = 0; i < LENGTH(numbers); i++) numbers[i] = (uint32_t)(i * i) % MODULUS;
     for (size_t i = 0; i < LENGTH(permutations); i++) permutations[i] = (uint16_t)((5 * i + i / BALLOTS) % BALLOTS);
-    for (size_t i = 0; i < LENGTH(keys); i++) keys[i] = (uint8_t)(i * i / 3);
+    fill_keys();
     for (size_t i = 0; i < LENGTH(dice); i++) dice[i] = (uint8_t)('1' + i % 6);
 }
 
