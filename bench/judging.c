@@ -158,7 +158,7 @@ static void print_stack(void) {
 }
 
 static void print_bad(void) {
-    printf("Judging 01 plainly, n = %d     ours %9.3f ms   C judge %9.3f ms   ratio %.3f\n", MOST,
+    printf("Judging 01 plainly, n = %d   ours %9.3f ms   C judge %9.3f ms   ratio %.3f\n", MOST,
            1e3 * honest.ours, 1e3 * honest.plain_c, honest.ours / honest.plain_c);
     for (int i = 0; i < BAD_BOARDS; i++) {
         printf("The same, %-18s   ours %9.3f ms   C judge %9.3f ms   share %.3f, of C judge %.3f",
