@@ -7,11 +7,14 @@
 use std::env;
 use std::io::{self, BufWriter, Write};
 
+use paddockyear_tests::boards::copies::{ballots_alone, commitments};
 use paddockyear_tests::boards::damage::{damaged_by, flipped};
 use paddockyear_tests::boards::{honest, parameters_by, ALL_DRAWS, BOTH};
 use paddockyear_tests::random::Random;
 use paddockyear_tests::reference::judge::{judge_by, JUDGINGS};
-use paddockyear_tests::reference::terms::{Edition, Parameters, COPIES_STAND, NOW};
+use paddockyear_tests::reference::terms::{
+    Commitment, Edition, Form, Parameters, COPIES_STAND, NOW,
+};
 
 fn put(out: &mut impl Write, edition: Edition, record: &[u8]) -> io::Result<()> {
     out.write_all(&(record.len() as u64).to_be_bytes())?;
@@ -59,6 +62,31 @@ fn put_damaged(out: &mut impl Write, edition: Edition, random: &mut Random) -> i
     Ok(())
 }
 
+/// Ballots of which each has six times one of its own six commitments, so that some are equal
+/// inside it, and now and then one of any ballot's.
+fn alike(random: &mut Random) -> Vec<[Commitment; 6]> {
+    let (ballots, strangers) = (1 + random.index(9), random.index(3));
+    let own = commitments(random, ballots);
+    let mut of = |ballot: usize| match random.index(6 * own.len()) < strangers {
+        true => own[random.index(own.len())][random.index(6)],
+        false => own[ballot][random.index(6)],
+    };
+    (0..own.len()).map(|ballot| std::array::from_fn(|_| of(ballot))).collect()
+}
+
+/// Ballots alone, with equal commitments: whole, with a bit changed, and cut.
+fn put_alike(out: &mut impl Write, edition: Edition, random: &mut Random) -> io::Result<()> {
+    for form in [Form::Unnumbered, Form::Numbered(21)] {
+        for _ in 0..1_000 {
+            let record = ballots_alone(form, &alike(random));
+            put(out, edition, &record)?;
+            put(out, edition, &flipped(random, &record))?;
+            put(out, edition, &record[..random.index(record.len())])?;
+        }
+    }
+    Ok(())
+}
+
 fn main() -> io::Result<()> {
     let random = &mut Random::new(70);
     let out = &mut BufWriter::new(io::stdout().lock());
@@ -70,5 +98,8 @@ fn main() -> io::Result<()> {
     };
     put_honest(out, edition, random)?;
     put_damaged(out, edition, random)?;
+    if edition == NOW {
+        put_alike(out, edition, random)?;
+    }
     out.flush()
 }
