@@ -2,14 +2,16 @@
 //! short ones of the runoff; with the feature `edited`. Programs alone call `put_result`,
 //! `put_election`, `put_refused` and `put_lines`.
 
+use paddockyear_tests::boards::copies::{ballots_alone, commitments};
 use paddockyear_tests::boards::samples::files;
 use paddockyear_tests::boards::{honest, inputs, BOTH};
 use paddockyear_tests::edited::protocol::{Form, Verdict};
 use paddockyear_tests::edited::runoff as edited_runoff;
+use paddockyear_tests::edited::wire::Order;
 use paddockyear_tests::edited::{limits, results, verifier, wire};
 use paddockyear_tests::random::Random;
 use paddockyear_tests::reference::runoff::Candidate;
-use paddockyear_tests::reference::terms::{Parameters, MAX_BALLOTS};
+use paddockyear_tests::reference::terms::{self, Parameters, MAX_BALLOTS};
 use paddockyear_tests::reference::writer::SidesSource;
 use paddockyear_tests::subjects::product::{part_three, runoff};
 
@@ -18,6 +20,29 @@ fn slices_of_two_lengths() {
     assert!(!wire::same_bytes(b"ab", b"abc"));
     assert!(!wire::same_bytes(b"abc", b"ab"));
     assert!(!wire::same_bytes(b"abc", b"abd"));
+}
+
+/// Each byte as the only one that tells two commitments apart.
+#[test]
+fn orders_of_commitments() {
+    for place in 0..32 {
+        let (low, mut high) = ([7; 40], [7; 40]);
+        high[8 + place] = 8;
+        assert_eq!(wire::compare32(&low, 8, &high, 8), Order::Less);
+        assert_eq!(wire::compare32(&high, 8, &low, 8), Order::Greater);
+        assert_eq!(wire::compare32(&high, 8, &high, 8), Order::Equal);
+    }
+}
+
+/// A copy, and behind it an id that falls: the suite's large boards take up the work that an edit is
+/// tried for.
+#[test]
+fn copy_before_another_fault() {
+    let mut ballots = commitments(&mut Random::new(64), 4);
+    ballots[1][2] = ballots[0][5];
+    let mut record = ballots_alone(terms::Form::Unnumbered, &ballots);
+    record[8 + 3 * 197 + 1..8 + 3 * 197 + 5].fill(0);
+    assert_eq!(verifier::judge_plainly(&record), Verdict::Refused(21));
 }
 
 #[test]
