@@ -5,12 +5,13 @@
 use paddockyear_tests::boards::copies::{ballots_alone, commitments};
 use paddockyear_tests::boards::samples::files;
 use paddockyear_tests::boards::{honest, inputs, BOTH};
-use paddockyear_tests::edited::protocol::{Form, Verdict};
+use paddockyear_tests::edited::protocol::{Form, Receipt, Verdict};
 use paddockyear_tests::edited::runoff as edited_runoff;
 use paddockyear_tests::edited::wire::Order;
 use paddockyear_tests::edited::{limits, results, verifier, wire};
 use paddockyear_tests::random::Random;
 use paddockyear_tests::reference::runoff::Candidate;
+use paddockyear_tests::reference::tablet::receipt;
 use paddockyear_tests::reference::terms::{self, Parameters, MAX_BALLOTS};
 use paddockyear_tests::reference::writer::SidesSource;
 use paddockyear_tests::subjects::product::{part_three, runoff};
@@ -101,6 +102,22 @@ fn first_commands() {
         let (_, board) = files().into_iter().find(|(file, _)| file == name).unwrap();
         for end in [width - 1, width] {
             assert_eq!(verifier::judge_plainly(&board[..end]), Verdict::Refused(1));
+        }
+    }
+}
+
+/// Receipts of other lengths, and one as printed, on a board of one ballot: the suite's long boards
+/// take up the work that an edit is tried for.
+#[test]
+fn lengths_of_receipts() {
+    let (_, board) = files().into_iter().find(|(name, _)| name == "one-ballot.board").unwrap();
+    let command = &board[8..8 + 197];
+    let printed = receipt(u32::from_be_bytes(command[1..5].try_into().unwrap()), command);
+    let longer: Vec<u8> = printed.iter().copied().chain([0]).collect();
+    for ask in [results::receipts::check_receipt, results::receipts::look_up] {
+        assert_eq!(ask(&board, &printed), Receipt::AsPrinted);
+        for other in [&longer[..], &printed[..31], &[]] {
+            assert_eq!(ask(&board, other), Receipt::Refused(18));
         }
     }
 }
