@@ -5,6 +5,7 @@
 ghost use mathlib.Core.Path.{_≡_};
 ghost use Prim.Native.Nat.{_+_, _*_, _<_, _≤_};
 ghost use lib.Bits.{bitXor};
+ghost use Rattle.laws.specs.Lent.{before, after};
 ghost use Rattle.keccak.specs.Keccak.{at, rotl, rotationOffsets, keccakF};
 ghost use Rattle.keccak.specs.Rows.{numbers, rowAt, flat, sides, summed, gathered, chi0Of, chi1Of, chi2Of, chi3Of, chi4Of, codeRound, flipped};
 
@@ -337,20 +338,29 @@ fn flip(a: [u64; 25]) -> [u64; 25]
     ]
 }
 
-// Keccak-f[1600].
-pub fn permute(a: [u64; 25]) -> [u64; 25]
+// Keccak-f[1600]. The table is named before the loop: a constant is built where it is named, in each turn if that is in the loop.
+fn permute(a: [u64; 25]) -> [u64; 25]
     ensures { λ r. ⌜ r ≡ keccakF a ⌝ }
 {
+    let constants = ROUND_CONSTANTS;
     let mut b = flip(a);
     for i in 0..6 {
         let t = rounds(
             b,
-            ROUND_CONSTANTS[i * 4],
-            ROUND_CONSTANTS[i * 4 + 1],
-            ROUND_CONSTANTS[i * 4 + 2],
-            ROUND_CONSTANTS[i * 4 + 3],
+            constants[i * 4],
+            constants[i * 4 + 1],
+            constants[i * 4 + 2],
+            constants[i * 4 + 3],
         );
         b = t;
     }
     flip(b)
+}
+
+// Keccak-f[1600], in place: callers then copy no state.
+pub fn permute_in_place(a: &mut [u64; 25])
+    ensures { λ _. ⌜ after a ≡ keccakF (before a) ⌝ }
+{
+    let b = permute(*a);
+    *a = b;
 }

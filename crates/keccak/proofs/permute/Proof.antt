@@ -14,10 +14,10 @@ use Rattle.keccak.proofs.permute.Tie as tie
 
 -- after i turns of the loop the state is that of i * 4 rounds, with six lanes complemented, from any words that the start is made of
 abbrev Inv-loop : tie.InvT-loop
-Inv-loop b₀ i₀ b i = (i ≤ 6) × ((f : ℕ → Word) → b₀ ≡ vals (flipOf words f) → b ≡ vals (flipOf words (roundsOf (i * 4) f)))
+Inv-loop constants b₀ i₀ b i = (i ≤ 6) × ((f : ℕ → Word) → b₀ ≡ vals (flipOf words f) → b ≡ vals (flipOf words (roundsOf (i * 4) f)))
 
 abbrev μ-loop : tie.MeasureT-loop
-μ-loop b₀ i₀ b i = 6 - i
+μ-loop constants b₀ i₀ b i = 6 - i
 
 loop-holds : tie.Need-loop-holds Inv-loop μ-loop
 unfolding roundsOf
