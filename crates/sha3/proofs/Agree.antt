@@ -12,11 +12,11 @@ use lib.ListN.{length, set, take, drop, replicate, length-append, length-set, le
 use lib.Seq.{set-set, set-getD, getD-set-same, take-all, take-append-le, drop-append-le, length-take-le}
 use Rattle.keccak.specs.Keccak.{at, lanes, keccakF, rounds, roundConstants, round, iota, chi, pi, rho, theta}
 use Rattle.sha3.specs.declared.Sponge.{Sponge}
-use Rattle.sha3.specs.Sha3.{Bytes, Rate, xorByte, absorbByte, absorbBytes, empty, padded, squeeze, digest, sha3-224, sha3-256}
+use Rattle.sha3.specs.Sha3.{Bytes, Rate, sponge, xorByte, absorbByte, absorbBytes, empty, padded, squeeze, digest, sha3-224, sha3-256}
 use Rattle.sha3.specs.Fips.{le, xorBlock, absorbBlocks, outputBlocks, pad, absorbed, fips, Agrees}
 use Rattle.sha3.proofs.Laws.{xorBytes, eight}
 use Rattle.keccak.proofs.Xor.{xor-assoc}
-use Rattle.sha3.proofs.Taking.{sponge, turn-full, turn-more, takes}
+use Rattle.sha3.proofs.Taking.{turn-full, turn-more, takes}
 use Rattle.sha3.proofs.Squeeze.{length-squeeze, take-squeeze}
 
 -- every element is a byte, element by element
@@ -118,7 +118,7 @@ block-is w [] (b ∷ bs) e h k = absurd (omega arith)
 block-is w (x ∷ xs) (b0 ∷ b1 ∷ b2 ∷ b3 ∷ b4 ∷ b5 ∷ b6 ∷ b7 ∷ bs) e h k =
     append (x ∷ xs) 0 (b0 ∷ b1 ∷ b2 ∷ b3 ∷ b4 ∷ b5 ∷ b6 ∷ b7 ∷ []) bs
     ∙ ap (λ (l : List ℕ). xorBytes l 8 bs)
-    (eight (x ∷ xs) 0 (omega arith) b0 b1 b2 b3 b4 b5 b6 b7
+    (eight (x ∷ xs) 0 b0 b1 b2 b3 b4 b5 b6 b7
     ∙ ap (λ (z : ℕ). bitXor x z ∷ xs)
     (word-le b0 b1 b2 b3 b4 b5 b6 b7 (k .0) (k .1 .0) (k .1 .1 .0) (k .1 .1 .1 .0) (k .1 .1 .1 .1 .0) (k .1 .1 .1 .1 .1 .0) (k .1 .1 .1 .1 .1 .1 .0)))
     ∙ later (bitXor x (le (b0 ∷ b1 ∷ b2 ∷ b3 ∷ b4 ∷ b5 ∷ b6 ∷ b7 ∷ []))) xs 0 bs

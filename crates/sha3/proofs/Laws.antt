@@ -1,14 +1,14 @@
 -- Laws of bytes that are added to a state.
 use mathlib.Core.Path.{_≡_, refl, sym, ap, ap₂, _∙_}
 use mathlib.Core.List.{List, [], _∷_}
-use Prim.Native.Nat.{ℕ, suc, _+_, _*_, _/_, _%_, _^_, _≤_, _<_}
+use Prim.Native.Nat.{ℕ, zero, suc, _+_, _*_, _/_, _%_, _^_, _≤_, _<_}
 use native.Mathlib.Nat.{mul-one}
 use native.Mathlib.Numerals.{add-one}
 use native.Mathlib.Omega.{arith}
 use lib.Pow.{shl-exact}
 use lib.Bits.{bitXor}
 use lib.ListN.{length, getD, set, take, drop}
-use lib.Seq.{set-set, getD-set-same, set-getD, drop-cons}
+use lib.Seq.{set-getD, drop-cons}
 use Rattle.keccak.specs.Keccak.{at}
 use Rattle.sha3.specs.Sha3.{xorByte}
 use Rattle.sha3.specs.Word.{wordAt}
@@ -57,15 +57,20 @@ module _ (f : ℕ → ℕ → ℕ) (assoc : (a b c : ℕ) → f (f a b) c ≡ f 
   regroup : (x a b c d e g h i : ℕ) → f (f (f (f (f (f (f (f x a) b) c) d) e) g) h) i ≡ f x (f (f (f (f (f (f (f a b) c) d) e) g) h) i)
   regroup x a b c d e g h i = simp assoc
 
-module _ (m : List ℕ) (k : ℕ) (h : k < length m) where
+-- a lane is changed twice, wherever it stands
+set-read : (f : ℕ → ℕ) (m : List ℕ) (k v : ℕ) → set (set m k v) k (f (at (set m k v) k)) ≡ set m k (f v)
+set-read f [] k v = refl
+set-read f (x ∷ m) zero v = refl
+set-read f (x ∷ m) (suc k) v = ap (λ (l : List ℕ). x ∷ l) (set-read f m k v)
+
+module _ (m : List ℕ) (k : ℕ) where
   one : (n j b v : ℕ) → n ≡ 8 * k + j → j < 8 → xorByte (set m k v) n b ≡ set m k (bitXor v (b * 2 ^ (j * 8)))
   unfolding xorByte
   one n j b v q l =
       let d : n / 8 ≡ k = omega arith in
       let r : n % 8 ≡ j = omega arith in
       ap₂ (λ (x y : ℕ). set (set m k v) x (bitXor (at (set m k v) x) (b * 2 ^ (y * 8)))) d r
-      ∙ set-set m k v (bitXor (at (set m k v) k) (b * 2 ^ (j * 8)))
-      ∙ ap (λ (z : ℕ). set m k (bitXor z (b * 2 ^ (j * 8)))) (getD-set-same m k v 0 h)
+      ∙ set-read (λ z. bitXor z (b * 2 ^ (j * 8))) m k v
 
   next : (n n′ j b v : ℕ) (bs : List ℕ) → n ≡ 8 * k + j → n + 1 ≡ n′ → j < 8 → xorBytes (set m k v) n (b ∷ bs) ≡ xorBytes (set m k (bitXor v (b * 2 ^ (j * 8)))) n′ bs
   unfolding xorBytes

@@ -2,7 +2,7 @@
 use mathlib.Core.Path.{_≡_, refl, sym, ap, ap₂, _∙_, subst}
 use mathlib.Core.Bool.{Bool}
 use mathlib.Core.List.{List, [], _∷_, _++_}
-use Prim.Native.Nat.{ℕ, _+_, _*_, _/_, _%_, _≤_, _<_}
+use Prim.Native.Nat.{ℕ, zero, suc, _+_, _-_, _*_, _/_, _%_, _≤_, _<_}
 use native.Mathlib.Nat.{not-suc-le-zero}
 use native.Mathlib.Numerals.{add-one}
 use native.Mathlib.Omega.{arith}
@@ -12,12 +12,9 @@ use lib.Seq.{drop-cons, drop-drop}
 use borrow.Author.Tests.{eq-eqb, ne-eqb}
 use Rattle.keccak.specs.Keccak.{at, keccakF}
 use Rattle.sha3.specs.declared.Sponge.{Sponge}
-use Rattle.sha3.specs.Sha3.{Rate, xorByte, turn, absorbByte, absorbBytes, pick, empty}
-use Rattle.sha3.specs.Word.{wordAt}
+use Rattle.sha3.specs.Sha3.{Rate, sponge, xorByte, turn, absorbByte, absorbBytes, pick, empty}
+use Rattle.sha3.specs.Word.{wordAt, addWords}
 use Rattle.sha3.proofs.Laws.{xorBytes, take-eight, eight}
-
-abbrev pub sponge : List ℕ → ℕ → Sponge
-sponge l n = record { lanes = l; fill = n }
 
 module _ (rate : ℕ) where
   pub turn-full : (l : List ℕ) (n : ℕ) → n ≡ rate → turn rate l n ≡ sponge (keccakF l) 0
@@ -45,10 +42,10 @@ module _ (rate : ℕ) where
       ∙ takes (b′ ∷ bs) rest (xorByte l n b) (n + 1) (omega arith) (omega arith)
       ∙ ap (λ (k : ℕ). absorbBytes rate (turn rate (xorBytes (xorByte l n b) (n + 1) (b′ ∷ bs)) k) rest) more
 
-  pub word-law : (p l : List ℕ) (n i : ℕ) → n % 8 ≡ 0 → n + 8 ≤ rate → n / 8 < length l → i + 8 ≤ length p →
+  pub word-law : (p l : List ℕ) (n i : ℕ) → n % 8 ≡ 0 → n + 8 ≤ rate → i + 8 ≤ length p →
       absorbBytes rate (sponge l n) (drop i p) ≡ absorbBytes rate (turn rate (set l (n / 8) (bitXor (at l (n / 8)) (wordAt p i))) (n + 8)) (drop (i + 8) p)
   unfolding wordAt
-  word-law p l n i h r f g =
+  word-law p l n i h r g =
       let len : length (take 8 (drop i p)) ≡ 8 = ap length (take-eight p i g) in
       let whole : n ≡ 8 * (n / 8) = omega arith in
       ap (absorbBytes rate (sponge l n)) (sym (take-append-drop 8 (drop i p)))
@@ -56,7 +53,48 @@ module _ (rate : ℕ) where
       ∙ ap₂ (λ (k : ℕ) (d : List ℕ). absorbBytes rate (turn rate (xorBytes l n (take 8 (drop i p))) (n + k)) d) len (drop-drop 8 i p)
       ∙ ap (λ (m : List ℕ). absorbBytes rate (turn rate m (n + 8)) (drop (i + 8) p))
       (ap₂ (λ (k : ℕ) (bs : List ℕ). xorBytes l k bs) whole (take-eight p i g)
-      ∙ eight l (n / 8) f (at p i) (at p (i + 1)) (at p (i + 2)) (at p (i + 3)) (at p (i + 4)) (at p (i + 5)) (at p (i + 6)) (at p (i + 7)))
+      ∙ eight l (n / 8) (at p i) (at p (i + 1)) (at p (i + 2)) (at p (i + 3)) (at p (i + 4)) (at p (i + 5)) (at p (i + 6)) (at p (i + 7)))
+
+  -- equals for equals in what is left to absorb
+  pub moved : (p : List ℕ) {l l′ : List ℕ} {n n′ i i′ : ℕ} → l ≡ l′ → n ≡ n′ → i ≡ i′ →
+      absorbBytes rate (turn rate l n) (drop i p) ≡ absorbBytes rate (turn rate l′ n′) (drop i′ p)
+  moved p q r s = cc
+
+  module _ (p l : List ℕ) (i : ℕ) (g : i + rate ≤ length p) where
+    -- one more word of a block
+    more : (k : ℕ) → 8 * k + 8 ≤ rate →
+        absorbBytes rate (sponge (addWords l p i k) (8 * k)) (drop (i + 8 * k) p) ≡ absorbBytes rate (turn rate (addWords l p i (suc k)) (8 * k + 8)) (drop (i + 8 * k + 8) p)
+    unfolding addWords
+    more k r =
+        let m = addWords l p i k in
+        let lane : 8 * k / 8 ≡ k = omega arith in
+        word-law p m (8 * k) (i + 8 * k) (omega arith) r (omega arith)
+        ∙ ap (λ (n : ℕ). absorbBytes rate (turn rate (set m n (bitXor (at m n) (wordAt p (i + 8 * k)))) (8 * k + 8)) (drop (i + 8 * k + 8) p)) lane
+
+    -- the first k words of a block, and the rest of the message
+    first : (k : ℕ) → 8 * k < rate →
+        absorbBytes rate (sponge l 0) (drop i p) ≡ absorbBytes rate (sponge (addWords l p i k) (8 * k)) (drop (i + 8 * k) p)
+    unfolding addWords
+    first zero r =
+        let j : i ≡ i + 8 * 0 = omega arith in
+        ap (λ (j : ℕ). absorbBytes rate (sponge l 0) (drop j p)) j
+    first (suc k) r =
+        let n : 8 * k + 8 ≡ 8 * suc k = omega arith in
+        let j : i + 8 * k + 8 ≡ i + 8 * suc k = omega arith in
+        first k (omega arith)
+        ∙ more k (omega arith)
+        ∙ moved p refl n j
+        ∙ ap (λ (s : Sponge). absorbBytes rate s (drop (i + 8 * suc k) p)) (turn-more (addWords l p i (suc k)) (8 * suc k) (λ q. omega arith))
+
+    -- a whole block
+    pub block-law : Rate rate →
+        absorbBytes rate (sponge l 0) (drop i p) ≡ absorbBytes rate (turn rate (addWords l p i (rate / 8)) rate) (drop (i + rate) p)
+    block-law R =
+        let k = rate / 8 - 1 in
+        let lanes : suc k ≡ rate / 8 = omega (arith, R .some, R .whole) in
+        let full : 8 * k + 8 ≡ rate = omega (arith, R .some, R .whole) in
+        let next : i + 8 * k + 8 ≡ i + rate = omega (arith, full) in
+        first k (omega arith) ∙ more k (omega arith) ∙ moved p (ap (addWords l p i) lanes) full next
 
   -- a message in two pieces is the message
   pub absorb-append : (s : Sponge) (p q : List ℕ) → absorbBytes rate s (p ++ q) ≡ absorbBytes rate (absorbBytes rate s p) q

@@ -10,6 +10,10 @@ use lib.Bits.{bitXor}
 use Rattle.keccak.specs.Keccak.{at, keccakF}
 use Rattle.sha3.specs.declared.Sponge.{Sponge}
 
+-- the sponge that has these lanes, and n bytes of the block at hand
+abbrev pub sponge : List ℕ → ℕ → Sponge
+sponge l n = record { lanes = l; fill = n }
+
 -- every element is a byte
 abbrev pub Bytes : List ℕ → Type 0
 Bytes m = (i : ℕ) → at m i < 256

@@ -18,6 +18,11 @@ wordAt p i =
     (at p (i + 6) * 2 ^ 48))
     (at p (i + 7) * 2 ^ 56)
 
+-- the state to whose first n lanes the eight bytes each from i on are added
+unfoldable pub addWords : List ℕ → List ℕ → ℕ → ℕ → List ℕ
+addWords l p i zero = l
+addWords l p i (suc n) = set (addWords l p i n) n (bitXor (at (addWords l p i n) n) (wordAt p (i + 8 * n)))
+
 -- a list with the first n bytes of a lane, the lowest first, from i on
 unfoldable pub putLane : List ℕ → ℕ → ℕ → ℕ → List ℕ
 putLane out i lane zero = out

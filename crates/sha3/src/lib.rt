@@ -1,11 +1,11 @@
 // SHA3-224 and SHA3-256 of FIPS 202, section 6.1, and the sponge that they share, over the rate in bytes.
 ghost use mathlib.Core.Path.{_≡_};
 ghost use mathlib.Core.List.{_++_};
-ghost use Prim.Native.Nat.{_+_, _≤_, _<_};
+ghost use Prim.Native.Nat.{_+_, _/_, _≤_, _<_};
 ghost use lib.ListN.{length, take};
 ghost use Rattle.laws.specs.Lent.{before, after};
-ghost use Rattle.sha3.specs.Sha3.{Rate, xorByte, absorbBytes, empty, padded, squeeze, digest, sha3-224, sha3-256};
-ghost use Rattle.sha3.specs.Word.{wordAt, putLane};
+ghost use Rattle.sha3.specs.Sha3.{Rate, sponge, xorByte, absorbBytes, empty, padded, squeeze, digest, sha3-224, sha3-256};
+ghost use Rattle.sha3.specs.Word.{wordAt, addWords, putLane};
 
 // A sponge: the state, and how many bytes of the block at hand were added to it.
 pub struct Sponge {
@@ -38,32 +38,56 @@ fn xor_byte(l: &mut [u64; 25], n: usize, b: u8)
     l[k] = l[k] ^ ((b as u64) << (n % 8 * 8));
 }
 
-// More of the message. A lane that is due takes eight bytes at once.
-pub fn absorb(s: Sponge, rate: usize, p: &[u8]) -> Sponge
-    requires { ⌜ Rate rate × (s .fill < rate) ⌝ }
-    ensures { λ r. ⌜ (r ≡ absorbBytes rate s (before p)) × (r .fill < rate) ⌝ }
+// A whole block of the message, from `at` on, is added to the state, lane by lane.
+fn add_block(l: &mut [u64; 25], rate: usize, p: &[u8], at: usize)
+    requires { ⌜ Rate rate × (at + rate ≤ length (now p)) ⌝ }
+    ensures { λ _. ⌜ after l ≡ addWords (before l) (before p) at (rate / 8) ⌝ }
 {
-    let mut l = s.lanes;
-    let mut fill = s.fill;
+    for k in 0..rate / 8 {
+        let w = word(p, at + 8 * k);
+        l[k] = l[k] ^ w;
+    }
+}
+
+// More of the message, into lanes that have `filled` bytes of the block at hand; answers how many they have then. A block or a lane that is
+// due is taken at once.
+fn absorb_into(l: &mut [u64; 25], filled: usize, rate: usize, p: &[u8]) -> usize
+    requires { ⌜ Rate rate × (filled < rate) ⌝ }
+    ensures { λ r. ⌜ (sponge (after l) r ≡ absorbBytes rate (sponge (before l) filled) (before p)) × (r < rate) ⌝ }
+{
+    let mut fill = filled;
     let mut i: usize = 0;
     while i < p.len() {
-        if fill % 8 == 0 && 8 <= p.len() - i {
+        if fill == 0 && rate <= p.len() - i {
+            add_block(l, rate, p, i);
+            i += rate;
+            fill = rate;
+        } else if fill % 8 == 0 && 8 <= p.len() - i {
             let w = word(p, i);
             let k = fill / 8;
             l[k] = l[k] ^ w;
             i += 8;
             fill += 8;
         } else {
-            xor_byte(&mut l, fill, p[i]);
+            xor_byte(l, fill, p[i]);
             i += 1;
             fill += 1;
         }
         if fill == rate {
-            let u = keccak::permute(l);
-            l = u;
+            keccak::permute_in_place(l);
             fill = 0;
         }
     }
+    fill
+}
+
+// More of the message.
+pub fn absorb(s: Sponge, rate: usize, p: &[u8]) -> Sponge
+    requires { ⌜ Rate rate × (s .fill < rate) ⌝ }
+    ensures { λ r. ⌜ (r ≡ absorbBytes rate s (before p)) × (r .fill < rate) ⌝ }
+{
+    let mut l = s.lanes;
+    let fill = absorb_into(&mut l, s.fill, rate, p);
     Sponge { lanes: l, fill }
 }
 
@@ -99,17 +123,26 @@ fn squeeze_into(v: &[u64; 25], out: &mut [u8])
     put_rest(v, 8 * whole, out);
 }
 
+// The end of the message, in lanes that have `fill` bytes of the last block: suffix, pad and digest, which is as long as `out`.
+fn finish_into(l: &mut [u64; 25], fill: usize, rate: usize, out: &mut [u8])
+    requires { ⌜ Rate rate × ((fill < rate) × (length (now out) ≤ rate)) ⌝ }
+    ensures { λ _.
+        let last = padded rate (sponge (before l) fill) in
+        ⌜ (after l ≡ last) × (after out ≡ squeeze last (length (before out))) ⌝ }
+{
+    xor_byte(l, fill, 6);
+    xor_byte(l, rate - 1, 128);
+    keccak::permute_in_place(l);
+    squeeze_into(l, out);
+}
+
 // The end of the message: suffix, pad and digest, which is as long as `out`.
 pub fn finish(s: Sponge, rate: usize, out: &mut [u8])
     requires { ⌜ Rate rate × ((s .fill < rate) × (length (now out) ≤ rate)) ⌝ }
     ensures { λ _. ⌜ after out ≡ squeeze (padded rate s) (length (before out)) ⌝ }
 {
     let mut l = s.lanes;
-    let fill = s.fill;
-    xor_byte(&mut l, fill, 6);
-    xor_byte(&mut l, rate - 1, 128);
-    let v = keccak::permute(l);
-    squeeze_into(&v, out);
+    finish_into(&mut l, s.fill, rate, out);
 }
 
 // The sponge before a message.
@@ -128,8 +161,9 @@ fn hash(rate: usize, m: &[u8], out: &mut [u8])
     ensures { λ _. ⌜ after out ≡ digest rate (length (before out)) (before m) ⌝ }
 {
     let s = start();
-    let t = absorb(s, rate, m);
-    finish(t, rate, out);
+    let mut l = s.lanes;
+    let n = absorb_into(&mut l, s.fill, rate, m);
+    finish_into(&mut l, n, rate, out);
 }
 
 // The digest, as long as `out`, of a message in three parts.
@@ -138,10 +172,11 @@ pub fn hash_parts(rate: usize, a: &[u8], b: &[u8], c: &[u8], out: &mut [u8])
     ensures { λ _. ⌜ after out ≡ digest rate (length (before out)) (before a ++ (before b ++ before c)) ⌝ }
 {
     let s = start();
-    let t = absorb(s, rate, a);
-    let u = absorb(t, rate, b);
-    let v = absorb(u, rate, c);
-    finish(v, rate, out);
+    let mut l = s.lanes;
+    let i = absorb_into(&mut l, s.fill, rate, a);
+    let j = absorb_into(&mut l, i, rate, b);
+    let k = absorb_into(&mut l, j, rate, c);
+    finish_into(&mut l, k, rate, out);
 }
 
 // SHA3-224 of m.

@@ -8,25 +8,28 @@ use Rattle.sha3.proofs.Digest.{digest-three}
 use Rattle.sha3.proofs.hash_parts.Statement.{statement}
 use Rattle.sha3.proofs.hash_parts.Tie as tie
 
-absorb-requires : tie.Need-absorb-requires
-absorb-requires c κs =
-    let s = c .before .before .before .before .before in
-    (s .pre .0, start-fill (s .args .rate) (c .start .ensures) (s .pre .0))
+absorb-into-requires : tie.Need-absorb-into-requires
+absorb-into-requires c κs =
+    let s = c .before .before in
+    let first = s .before .before .before .before .before in
+    (first .pre .0, start-fill (first .args .rate) (s .start .ensures) (first .pre .0))
 
 returns : tie.Need-returns
 returns c =
     let f = c .before .before in
-    let u = f .before .before in
+    let w = f .before .before .before in
+    let v = w .before .before in
+    let u = v .before .before in
     let s = u .before .before .before in
     let args = s .before .before .before .before .before .args in
     let rate = args .rate in
     let n = length (args .out .now) in
-    f .finish .ensures
+    f .finish-into .ensures .1
     ∙ ap (λ t. squeeze (padded rate t) n)
-    (u .absorb3 .ensures .0
+    (w .absorb-into3 .ensures .0
     ∙ ap (λ t. absorbBytes rate t (args .c .now))
-    (u .before .absorb2 .ensures .0
-    ∙ ap (λ t. absorbBytes rate t (args .b .now)) (u .before .before .absorb .ensures .0 ∙ ap (λ t. absorbBytes rate t (args .a .now)) (s .start .ensures))))
+    (v .absorb-into2 .ensures .0
+    ∙ ap (λ t. absorbBytes rate t (args .b .now)) (u .absorb-into .ensures .0 ∙ ap (λ t. absorbBytes rate t (args .a .now)) (s .start .ensures))))
     ∙ sym (digest-three rate n (args .a .now) (args .b .now) (args .c .now))
 
 pub hash-parts-spec : {M : Type 1} → statement M
@@ -34,7 +37,7 @@ hash-parts-spec =
     tie.close
     (tie.spec
     (λ c κs. search needs)
-    absorb-requires
+    absorb-into-requires
     (λ c κs. search needs)
     (λ c κs. search needs)
     (λ c κs. search needs)
