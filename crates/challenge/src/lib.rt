@@ -68,10 +68,7 @@ fn draw_hash(i: u32, q: &[u8], last: u8, out: &mut [u8; 28])
     let mut number = [0u8; 10];
     let n = decimals::put_decimal(&mut number, 0, i);
     let end = [last];
-    let s = sha3::absorb(sha3::start(), 144, &number[..n]);
-    let t = sha3::absorb(s, 144, q);
-    let u = sha3::absorb(t, 144, &end);
-    sha3::finish(u, 144, out);
+    sha3::hash_parts(144, &number[..n], q, &end, out);
 }
 
 // 1 where list i is chosen, the first of so many lists of which some are left to choose, and else 0.

@@ -58,9 +58,7 @@ pub fn put_commitment(
 {
     let mut number = [0u8; 4];
     wire::put4(&mut number, 0, x);
-    let s = sha3::absorb(sha3::start(), 136, key);
-    let t = sha3::absorb(s, 136, &number);
     let end = at + 32;
-    sha3::finish(t, 136, &mut out[at..end]);
+    sha3::hash_two(136, key, &number, &mut out[at..end]);
     end
 }

@@ -38,9 +38,7 @@ use runoff::Runoff;
 pub extern "C" fn paddockyear_keccak_f(lanes: &mut [u64; 25])
     ensures { λ _. ⌜ after lanes ≡ keccakF (before lanes) ⌝ }
 {
-    let a = *lanes;
-    let b = keccak::permute(a);
-    *lanes = b;
+    keccak::permute_in_place(lanes);
 }
 
 // SHA3-224 of m.

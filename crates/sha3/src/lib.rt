@@ -166,6 +166,18 @@ fn hash(rate: usize, m: &[u8], out: &mut [u8])
     finish_into(&mut l, n, rate, out);
 }
 
+// The digest, as long as `out`, of a message in two parts.
+pub fn hash_two(rate: usize, a: &[u8], b: &[u8], out: &mut [u8])
+    requires { ⌜ Rate rate × (length (now out) ≤ rate) ⌝ }
+    ensures { λ _. ⌜ after out ≡ digest rate (length (before out)) (before a ++ before b) ⌝ }
+{
+    let s = start();
+    let mut l = s.lanes;
+    let i = absorb_into(&mut l, s.fill, rate, a);
+    let j = absorb_into(&mut l, i, rate, b);
+    finish_into(&mut l, j, rate, out);
+}
+
 // The digest, as long as `out`, of a message in three parts.
 pub fn hash_parts(rate: usize, a: &[u8], b: &[u8], c: &[u8], out: &mut [u8])
     requires { ⌜ Rate rate × (length (now out) ≤ rate) ⌝ }
