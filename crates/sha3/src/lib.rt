@@ -173,9 +173,9 @@ pub fn hash_two(rate: usize, a: &[u8], b: &[u8], out: &mut [u8])
 {
     let s = start();
     let mut l = s.lanes;
-    let i = absorb_into(&mut l, s.fill, rate, a);
-    let j = absorb_into(&mut l, i, rate, b);
-    finish_into(&mut l, j, rate, out);
+    let one = absorb_into(&mut l, s.fill, rate, a);
+    let two = absorb_into(&mut l, one, rate, b);
+    finish_into(&mut l, two, rate, out);
 }
 
 // The digest, as long as `out`, of a message in three parts.
