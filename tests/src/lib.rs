@@ -2,6 +2,8 @@
 //! tests run through it and through the product.
 
 pub mod boards;
+pub mod contracts;
+pub mod crates;
 #[cfg(feature = "edited")]
 pub mod edited;
 pub mod edits;

@@ -7,58 +7,24 @@
 //!   is named. `--run`: the notes of the run must show that each edit changes an answer. `--own`:
 //!   every public function has an edit in itself.
 
+use paddockyear_tests::crates::{files, listed, sources};
 use paddockyear_tests::edits::rounds::{parse, Edit};
-use paddockyear_tests::edits::sources::{Item, Sources};
+use paddockyear_tests::edits::sources::Item;
 use paddockyear_tests::edits::translation::{translated, Library};
 use paddockyear_tests::edits::{faults, never_changed, resolved, unguarded, Run, Trial};
-use std::collections::BTreeMap;
 use std::fs;
 use std::hash::{DefaultHasher, Hash, Hasher};
 use std::path::{Path, PathBuf};
 use std::process::ExitCode;
+
+/// Where this is run from: the root of the repository.
+const ROOT: &str = ".";
 
 /// What the run notes, beside the reports.
 const NOTES: &str = "target/edits/changes";
 
 /// Edits that change nothing, by crate: the run must try them and see no change.
 const CONTROLS: &str = "tests/tests/edits/controls";
-
-/// The crates of crates.txt, in its order, each with those that it leans on.
-fn listed() -> Vec<(String, Vec<String>)> {
-    let list =
-        fs::read_to_string("crates.txt").expect("crates.txt in the folder that this is run from");
-    let lines = list.lines().filter(|line| !line.starts_with('#'));
-    let pairs = lines.filter_map(|line| line.split_once(':'));
-    let words = |text: &str| text.split_whitespace().map(String::from).collect();
-    pairs.map(|(name, others)| (name.to_string(), words(others))).collect()
-}
-
-/// The files below a folder with this ending, sorted; none where there is no folder.
-fn files(folder: &Path, ending: &str) -> Vec<PathBuf> {
-    let Ok(entries) = fs::read_dir(folder) else {
-        return Vec::new();
-    };
-    let mut found = Vec::new();
-    for path in entries.filter_map(|entry| entry.ok().map(|entry| entry.path())) {
-        if path.is_dir() {
-            found.extend(files(&path, ending));
-        } else if path.extension().is_some_and(|e| e == ending) {
-            found.push(path);
-        }
-    }
-    found.sort();
-    found
-}
-
-fn sources(name: &str) -> Sources {
-    let root = PathBuf::from(format!("crates/{name}"));
-    let read = |path: PathBuf| {
-        let text = fs::read_to_string(&path).expect("a source that can be read");
-        let inner = path.strip_prefix(&root).expect("a file of the crate");
-        (inner.to_string_lossy().to_string(), text)
-    };
-    Sources::new(files(&root.join("src"), "rt").into_iter().map(read).collect::<BTreeMap<_, _>>())
-}
 
 /// The edits of a file, or what is wrong with it.
 fn edits_of(file: &Path) -> Result<Vec<Edit>, String> {
@@ -98,9 +64,9 @@ fn trials(library: &Library) -> Vec<Trial> {
 /// The code in Rust with all edits, and what tells this text from others. What calls the C library
 /// is left out, as programs are.
 fn translation() -> Result<(String, String), String> {
-    let all = listed().into_iter();
+    let all = listed(ROOT).into_iter();
     let libraries: Vec<Library> = all
-        .map(|(name, leans_on)| Library { sources: sources(&name), name, leans_on })
+        .map(|(name, leans_on)| Library { sources: sources(ROOT, &name), name, leans_on })
         .filter(|library| library.sources.files.contains_key("src/lib.rt"))
         .filter(|library| !library.leans_on.iter().any(|other| other == "libc"))
         .collect();
@@ -132,7 +98,7 @@ fn notes() -> Result<Run, String> {
 
 /// How many edits of a crate are as they should be, and what is wrong.
 fn look(name: &str, run: Option<&Run>, own: bool) -> (usize, Vec<String>) {
-    let sources = sources(name);
+    let sources = sources(ROOT, name);
     let (mut all, mut wrong) = (Vec::new(), Vec::new());
     for (round, edits) in rounds(name) {
         let log = format!("target/must-fail/{name}/{round}/.log");
@@ -164,7 +130,7 @@ fn read(words: &[String]) -> Result<(usize, usize), String> {
     let has = |flag: &str| words.iter().any(|word| word == flag);
     let run = if has("--run") { Some(notes()?) } else { None };
     let named: Vec<String> = words.iter().filter(|word| !word.starts_with("--")).cloned().collect();
-    let all = || listed().into_iter().map(|(name, _)| name).collect();
+    let all = || listed(ROOT).into_iter().map(|(name, _)| name).collect();
     let (mut good, mut bad) = (0, 0);
     for name in if named.is_empty() { all() } else { named } {
         let (right, wrong) = look(&name, run.as_ref(), has("--own"));

@@ -1,4 +1,5 @@
-//! The functions and constants of a crate's sources, with the module of each, and who calls whom.
+//! The functions, constants and types of a crate's sources, with the module of each, who calls
+//! whom, and the functions' contracts.
 //! It reads files in the layout of `rt fmt`: an item starts and ends at a line's start.
 
 use std::collections::{BTreeMap, BTreeSet};
@@ -10,8 +11,8 @@ pub enum Kind {
     Constant,
 }
 
-/// A function or a constant: its path from the crate's root, its place in its file, and the place
-/// of its body, a constant's value.
+/// A function or a constant: its path from the crate's root, its place in its file, the place of
+/// its contract, which may be empty, and that of its body, a constant's value.
 #[derive(Clone, Debug)]
 pub struct Item {
     pub kind: Kind,
@@ -19,6 +20,7 @@ pub struct Item {
     pub public: bool,
     pub file: String,
     pub whole: Range<usize>,
+    pub contract: Range<usize>,
     pub body: Range<usize>,
 }
 
@@ -29,16 +31,25 @@ impl Item {
     }
 }
 
+/// An `enum` with its variants, or a `struct`: its path from the crate's root.
+#[derive(Clone, Debug)]
+pub struct Type {
+    pub path: String,
+    pub variants: Vec<String>,
+}
+
 /// A crate's sources by file, as `src/lib.rt`.
 pub struct Sources {
     pub files: BTreeMap<String, String>,
     pub items: Vec<Item>,
+    pub types: Vec<Type>,
 }
 
 impl Sources {
     pub fn new(files: BTreeMap<String, String>) -> Self {
         let items = files.iter().flat_map(|(file, text)| items_of(file, text)).collect();
-        Self { files, items }
+        let types = files.iter().flat_map(|(file, text)| types_of(file, text)).collect();
+        Self { files, items, types }
     }
 
     pub fn text(&self, item: &Item) -> &str {
@@ -47,6 +58,24 @@ impl Sources {
 
     pub fn body(&self, item: &Item) -> &str {
         &self.files[&item.file][item.body.clone()]
+    }
+
+    /// What stands before an item's contract and body: a function's parameters and answer.
+    pub fn head(&self, item: &Item) -> &str {
+        &self.files[&item.file][item.whole.start..item.contract.start]
+    }
+
+    /// The clauses of a function's contract, each with single spaces.
+    pub fn clauses(&self, item: &Item) -> Vec<String> {
+        let mut found: Vec<String> = Vec::new();
+        for line in self.files[&item.file][item.contract.clone()].lines() {
+            let words = line.split_whitespace().collect::<Vec<_>>().join(" ");
+            match found.last_mut() {
+                Some(clause) if !starts_clause(line) => *clause += &format!(" {words}"),
+                _ => found.push(words),
+            }
+        }
+        found
     }
 
     pub fn at(&self, path: &str) -> Option<&Item> {
@@ -101,17 +130,18 @@ pub fn module_of(file: &str) -> String {
     path.strip_suffix("/mod").unwrap_or(path).replace('/', "::")
 }
 
-fn joined(module: &str, name: &str) -> String {
+/// A path behind another, either of which may be empty.
+pub fn joined(module: &str, name: &str) -> String {
     let parts = [module, name];
     parts.into_iter().filter(|part| !part.is_empty()).collect::<Vec<_>>().join("::")
 }
 
 /// The function or constant that a line of source begins, if it does.
 fn item_of(line: &str) -> Option<(Kind, &str)> {
-    let words = line.strip_prefix("pub(crate) ").or(line.strip_prefix("pub ")).unwrap_or(line);
+    let words = declared(line);
     let words = words.strip_prefix("extern \"C\" ").unwrap_or(words);
     let (kind, rest) = words.split_once(' ')?;
-    let name = rest.split(|c: char| !c.is_alphanumeric() && c != '_').next()?;
+    let name = first_word(rest)?;
     match kind {
         "fn" => Some((Kind::Function, name)),
         "const" => Some((Kind::Constant, name)),
@@ -125,9 +155,11 @@ fn items_of(file: &str, text: &str) -> Vec<Item> {
     for line in text.split_inclusive('\n') {
         if let Some((kind, name)) = item_of(line) {
             let (whole, body) = places(text, at, kind);
+            let contract = contract(text, at, &body);
             let path = joined(&module_of(file), name);
             let public = line.starts_with("pub ");
-            found.push(Item { kind, path, public, file: file.to_string(), whole, body });
+            let file = file.to_string();
+            found.push(Item { kind, path, public, file, whole, contract, body });
         }
         at += line.len();
     }
@@ -158,6 +190,54 @@ fn opening(text: &str) -> Option<usize> {
     None
 }
 
+/// Whether a line starts a clause of a contract. In the layout of `rt fmt` it has its own line.
+fn starts_clause(line: &str) -> bool {
+    let clause = line.strip_prefix("    ").and_then(|rest| rest.split(' ').next());
+    clause.is_some_and(|word| matches!(word, "requires" | "ensures"))
+}
+
+/// Where the contract of an item stands that starts at a place: from its first clause to the brace
+/// before its body. It is empty where there is none.
+fn contract(text: &str, start: usize, body: &Range<usize>) -> Range<usize> {
+    let mut at = start;
+    for line in text[start..body.start].split_inclusive('\n') {
+        if starts_clause(line) {
+            return at..body.start - "{\n".len();
+        }
+        at += line.len();
+    }
+    body.start..body.start
+}
+
+/// A line without the words that say who may use what it declares.
+fn declared(line: &str) -> &str {
+    line.strip_prefix("pub(crate) ").or(line.strip_prefix("pub ")).unwrap_or(line)
+}
+
+fn types_of(file: &str, text: &str) -> Vec<Type> {
+    let mut found: Vec<Type> = Vec::new();
+    let mut inside = false;
+    for line in text.lines() {
+        let words = declared(line);
+        let rest = words.strip_prefix("enum ").or(words.strip_prefix("struct "));
+        if let Some(name) = rest.and_then(first_word) {
+            found.push(Type { path: joined(&module_of(file), name), variants: Vec::new() });
+            inside = words.starts_with("enum ");
+        } else if line.starts_with('}') {
+            inside = false;
+        } else if let (true, Some(of)) = (inside, found.last_mut()) {
+            of.variants.extend(first_word(line.trim_start()).map(String::from));
+        }
+    }
+    found
+}
+
+/// The name that a text starts with, if it does.
+fn first_word(text: &str) -> Option<&str> {
+    let end = text.find(|c: char| !c.is_alphanumeric() && c != '_').unwrap_or(text.len());
+    Some(&text[..end]).filter(|word| !word.is_empty())
+}
+
 /// A text without its comments.
 pub fn code(text: &str) -> String {
     let lines = text.lines().map(|line| line.split("//").next().unwrap_or(line).trim_end());
@@ -172,9 +252,16 @@ fn calls(code: &str) -> BTreeSet<&str> {
     names.filter(|name| !name.is_empty()).collect()
 }
 
-/// What the `use` lines of a file bring in: a name and its path.
+/// What the `use` lines of a file bring in: a name and its path from the crate's root.
 fn imports(file: &str, text: &str) -> Vec<(String, String)> {
-    let lines = text.lines().map(|line| line.strip_prefix("pub ").unwrap_or(line));
+    let all = uses(text).into_iter();
+    let paths = all.map(|(alias, full)| (alias, meanings(file, &[], &full)));
+    paths.flat_map(|(alias, paths)| paths.into_iter().map(move |p| (alias.clone(), p))).collect()
+}
+
+/// What the `use` lines of a file bring in: a name and its path as it is written.
+pub fn uses(text: &str) -> Vec<(String, String)> {
+    let lines = text.lines().map(declared);
     let uses = lines.filter_map(|line| line.strip_prefix("use ")?.strip_suffix(';'));
     let mut found = Vec::new();
     for path in uses {
@@ -184,8 +271,7 @@ fn imports(file: &str, text: &str) -> Vec<(String, String)> {
         };
         for name in names.split(',').map(str::trim) {
             let (name, alias) = name.split_once(" as ").unwrap_or((name, name));
-            let full = joined(stem, name);
-            found.extend(meanings(file, &[], &full).into_iter().map(|p| (alias.to_string(), p)));
+            found.push((alias.to_string(), joined(stem, name)));
         }
     }
     found
