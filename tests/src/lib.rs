@@ -4,6 +4,7 @@
 pub mod boards;
 pub mod contracts;
 pub mod crates;
+pub mod division;
 #[cfg(feature = "edited")]
 pub mod edited;
 pub mod edits;
