@@ -8,13 +8,14 @@ use native.Mathlib.Numerals.{add-one}
 use native.Mathlib.Omega.{arith}
 use lib.ListN.{length, set, take, drop, take-append-drop}
 use lib.Bits.{bitXor}
+use lib.Dec.{lit<}
 use lib.Seq.{drop-cons, drop-drop}
 use borrow.Author.Tests.{eq-eqb, ne-eqb}
 use Rattle.keccak.specs.Keccak.{at, keccakF}
 use Rattle.sha3.specs.declared.Sponge.{Sponge}
 use Rattle.sha3.specs.Sha3.{Rate, sponge, xorByte, turn, absorbByte, absorbBytes, pick, empty}
-use Rattle.sha3.specs.Word.{wordAt, addWords}
-use Rattle.sha3.proofs.Laws.{xorBytes, take-eight, eight}
+use Rattle.sha3.specs.Word.{wordAt, halfWordAt, addWords}
+use Rattle.sha3.proofs.Laws.{xorBytes, take-four, take-eight, four, eight}
 
 module _ (rate : ℕ) where
   pub turn-full : (l : List ℕ) (n : ℕ) → n ≡ rate → turn rate l n ≡ sponge (keccakF l) 0
@@ -42,18 +43,29 @@ module _ (rate : ℕ) where
       ∙ takes (b′ ∷ bs) rest (xorByte l n b) (n + 1) (omega arith) (omega arith)
       ∙ ap (λ (k : ℕ). absorbBytes rate (turn rate (xorBytes (xorByte l n b) (n + 1) (b′ ∷ bs)) k) rest) more
 
+  -- bytes of one lane, of which none was added, and then the rest
+  lane-law : (p l bs : List ℕ) (n i c : ℕ) → n % 8 ≡ 0 → 0 < c → n + c ≤ rate → take c (drop i p) ≡ bs → length bs ≡ c →
+      absorbBytes rate (sponge l n) (drop i p) ≡ absorbBytes rate (turn rate (xorBytes l (8 * (n / 8)) bs) (n + c)) (drop (i + c) p)
+  lane-law p l bs n i c h some r e len =
+      let whole : n ≡ 8 * (n / 8) = omega arith in
+      ap (absorbBytes rate (sponge l n)) (sym (take-append-drop c (drop i p)) ∙ ap₂ (λ (x y : List ℕ). x ++ y) e (drop-drop c i p))
+      ∙ takes bs (drop (i + c) p) l n (omega arith) (omega arith)
+      ∙ ap₂ (λ (k d : ℕ). absorbBytes rate (turn rate (xorBytes l k bs) (n + d)) (drop (i + c) p)) whole len
+
   pub word-law : (p l : List ℕ) (n i : ℕ) → n % 8 ≡ 0 → n + 8 ≤ rate → i + 8 ≤ length p →
       absorbBytes rate (sponge l n) (drop i p) ≡ absorbBytes rate (turn rate (set l (n / 8) (bitXor (at l (n / 8)) (wordAt p i))) (n + 8)) (drop (i + 8) p)
   unfolding wordAt
   word-law p l n i h r g =
-      let len : length (take 8 (drop i p)) ≡ 8 = ap length (take-eight p i g) in
-      let whole : n ≡ 8 * (n / 8) = omega arith in
-      ap (absorbBytes rate (sponge l n)) (sym (take-append-drop 8 (drop i p)))
-      ∙ takes (take 8 (drop i p)) (drop 8 (drop i p)) l n (omega arith) (omega arith)
-      ∙ ap₂ (λ (k : ℕ) (d : List ℕ). absorbBytes rate (turn rate (xorBytes l n (take 8 (drop i p))) (n + k)) d) len (drop-drop 8 i p)
+      lane-law p l _ n i 8 h (lit< tt) r (take-eight p i g) refl
       ∙ ap (λ (m : List ℕ). absorbBytes rate (turn rate m (n + 8)) (drop (i + 8) p))
-      (ap₂ (λ (k : ℕ) (bs : List ℕ). xorBytes l k bs) whole (take-eight p i g)
-      ∙ eight l (n / 8) (at p i) (at p (i + 1)) (at p (i + 2)) (at p (i + 3)) (at p (i + 4)) (at p (i + 5)) (at p (i + 6)) (at p (i + 7)))
+      (eight l (n / 8) (at p i) (at p (i + 1)) (at p (i + 2)) (at p (i + 3)) (at p (i + 4)) (at p (i + 5)) (at p (i + 6)) (at p (i + 7)))
+
+  pub half-word-law : (p l : List ℕ) (n i : ℕ) → n % 8 ≡ 0 → n + 4 ≤ rate → i + 4 ≤ length p →
+      absorbBytes rate (sponge l n) (drop i p) ≡ absorbBytes rate (turn rate (set l (n / 8) (bitXor (at l (n / 8)) (halfWordAt p i))) (n + 4)) (drop (i + 4) p)
+  unfolding halfWordAt
+  half-word-law p l n i h r g =
+      lane-law p l _ n i 4 h (lit< tt) r (take-four p i g) refl
+      ∙ ap (λ (m : List ℕ). absorbBytes rate (turn rate m (n + 4)) (drop (i + 4) p)) (four l (n / 8) (at p i) (at p (i + 1)) (at p (i + 2)) (at p (i + 3)))
 
   -- equals for equals in what is left to absorb
   pub moved : (p : List ℕ) {l l′ : List ℕ} {n n′ i i′ : ℕ} → l ≡ l′ → n ≡ n′ → i ≡ i′ →

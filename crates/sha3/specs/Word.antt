@@ -18,6 +18,10 @@ wordAt p i =
     (at p (i + 6) * 2 ^ 48))
     (at p (i + 7) * 2 ^ 56)
 
+-- the number that the four bytes from i on make, the lowest first
+unfoldable pub halfWordAt : List ℕ → ℕ → ℕ
+halfWordAt p i = bitXor (bitXor (bitXor (at p i) (at p (i + 1) * 2 ^ 8)) (at p (i + 2) * 2 ^ 16)) (at p (i + 3) * 2 ^ 24)
+
 -- the state to whose first n lanes the eight bytes each from i on are added
 unfoldable pub addWords : List ℕ → List ℕ → ℕ → ℕ → List ℕ
 addWords l p i zero = l

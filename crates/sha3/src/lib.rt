@@ -5,7 +5,7 @@ ghost use Prim.Native.Nat.{_+_, _/_, _≤_, _<_};
 ghost use lib.ListN.{length, take};
 ghost use Rattle.laws.specs.Lent.{before, after};
 ghost use Rattle.sha3.specs.Sha3.{Rate, sponge, xorByte, absorbBytes, empty, padded, squeeze, digest, sha3-224, sha3-256};
-ghost use Rattle.sha3.specs.Word.{wordAt, addWords, putLane};
+ghost use Rattle.sha3.specs.Word.{wordAt, halfWordAt, addWords, putLane};
 
 // A sponge: the state, and how many bytes of the block at hand were added to it.
 pub struct Sponge {
@@ -29,6 +29,18 @@ fn word(p: &[u8], at: usize) -> u64
     b0 ^ (b1 << 8) ^ (b2 << 16) ^ (b3 << 24) ^ (b4 << 32) ^ (b5 << 40) ^ (b6 << 48) ^ (b7 << 56)
 }
 
+// The four bytes from `at` on, as a number, the lowest first.
+fn half_word(p: &[u8], at: usize) -> u64
+    requires { ⌜ at + 4 ≤ length (now p) ⌝ }
+    ensures { λ r. ⌜ r ≡ halfWordAt (before p) at ⌝ }
+{
+    let c0 = p[at] as u64;
+    let c1 = p[at + 1] as u64;
+    let c2 = p[at + 2] as u64;
+    let c3 = p[at + 3] as u64;
+    c0 ^ (c1 << 8) ^ (c2 << 16) ^ (c3 << 24)
+}
+
 // b is added to byte n of the state.
 fn xor_byte(l: &mut [u64; 25], n: usize, b: u8)
     requires { ⌜ n < 200 ⌝ }
@@ -49,8 +61,8 @@ fn add_block(l: &mut [u64; 25], rate: usize, p: &[u8], at: usize)
     }
 }
 
-// More of the message, into lanes that have `filled` bytes of the block at hand; answers how many they have then. A block or a lane that is
-// due is taken at once.
+// More of the message, into lanes that have `filled` bytes of the block at hand; answers how many they have then. A block that is due is
+// taken at once, and so are a lane and the lower half of one: an opening ends in four bytes.
 fn absorb_into(l: &mut [u64; 25], filled: usize, rate: usize, p: &[u8]) -> usize
     requires { ⌜ Rate rate × (filled < rate) ⌝ }
     ensures { λ r. ⌜ (sponge (after l) r ≡ absorbBytes rate (sponge (before l) filled) (before p)) × (r < rate) ⌝ }
@@ -68,6 +80,12 @@ fn absorb_into(l: &mut [u64; 25], filled: usize, rate: usize, p: &[u8]) -> usize
             l[k] = l[k] ^ w;
             i += 8;
             fill += 8;
+        } else if fill % 8 == 0 && 4 <= p.len() - i {
+            let w = half_word(p, i);
+            let k = fill / 8;
+            l[k] = l[k] ^ w;
+            i += 4;
+            fill += 4;
         } else {
             xor_byte(l, fill, p[i]);
             i += 1;

@@ -12,7 +12,7 @@ use borrow.Author.Needs.{needs}
 use borrow.Author.Tests.{leb-true}
 use Rattle.sha3.specs.declared.Sponge.{Sponge}
 use Rattle.sha3.specs.Sha3.{sponge, absorbBytes, xorByte, turn}
-use Rattle.sha3.proofs.Taking.{turn-full, turn-more, moved, byte-law, word-law, block-law}
+use Rattle.sha3.proofs.Taking.{turn-full, turn-more, moved, byte-law, word-law, half-word-law, block-law}
 use Rattle.sha3.proofs.absorb_into.Statement.{statement}
 use Rattle.sha3.proofs.absorb_into.Tie as tie
 
@@ -39,7 +39,13 @@ word-requires c κs = omega (arith, leb-true)
 add-i-2 : tie.Need-add-i-2 Inv-loop μ-loop
 add-i-2 c = omega (arith, leb-true)
 
--- where the ways meet: a block, a word or a byte was added, and the sponge is to be permuted if it is full
+half-word-requires : tie.Need-half-word-requires Inv-loop μ-loop
+half-word-requires c κs = omega (arith, leb-true)
+
+add-i-3 : tie.Need-add-i-3 Inv-loop μ-loop
+add-i-3 c = omega (arith, leb-true)
+
+-- where the ways meet: a block, a word, the half of one or a byte was added, and the sponge is to be permuted if it is full
 record Added (rate : ℕ) (p l₀ : List ℕ) (filled i : ℕ) (l : List ℕ) (fill i′ : ℕ) : Type 0 where
   further : i < i′
   within : i′ ≤ length p
@@ -83,12 +89,22 @@ added c =
       room = omega arith;
       same = moved rate p l′ (w .6) (w .7) ∙ sym (word-law rate p l n i (w .1 .taken) (omega arith) left) ∙ a .loop .inv .1 .1;
     })
+    (⊎-elim
+    (λ w.
+    let left : i + 4 ≤ length p = omega (arith, leb-true) in
+    let l′ = w .6 ∙ ap (λ (x : ℕ). set l k (bitXor (getD l k 0) x)) (w .4 .ensures) in
+    record {
+      further = omega arith;
+      within = omega arith;
+      room = omega arith;
+      same = moved rate p l′ (w .7) (w .8) ∙ sym (half-word-law rate p l n i (w .2 .taken) (omega arith) left) ∙ a .loop .inv .1 .1;
+    })
     (λ w. record {
       further = omega arith;
       within = omega arith;
       room = omega arith;
-      same = moved rate p (w .5 ∙ w .4 .ensures) (w .6) (w .7) ∙ sym (byte-law rate p l n i (omega arith)) ∙ a .loop .inv .1 .1;
-    }))
+      same = moved rate p (w .6 ∙ w .5 .ensures) (w .7) (w .8) ∙ sym (byte-law rate p l n i (omega arith)) ∙ a .loop .inv .1 .1;
+    })))
     (c .if1 .came)
 
 loop-less : tie.Need-loop-less Inv-loop μ-loop
@@ -103,7 +119,7 @@ loop-again c =
       (
         omega arith,
         ap (λ (s : Sponge). absorbBytes (args .rate) s (drop (j .if1 .i) (args .p .now)))
-            (ap (λ (y : List ℕ). sponge y 0) (c .permute-in-place .ensures) ∙ sym (turn-full (args .rate) (j .if1 .l) (j .if1 .fill) (c .before .before .if5 .taken)))
+            (ap (λ (y : List ℕ). sponge y 0) (c .permute-in-place .ensures) ∙ sym (turn-full (args .rate) (j .if1 .l) (j .if1 .fill) (c .before .before .if7 .taken)))
             ∙ h .same,
       ),
     )
@@ -120,7 +136,7 @@ loop-again-2 c =
       (
         omega arith,
         ap (λ (s : Sponge). absorbBytes (args .rate) s (drop (j .if1 .i) (args .p .now)))
-            (sym (turn-more (args .rate) (j .if1 .l) (j .if1 .fill) (c .if5 .left)))
+            (sym (turn-more (args .rate) (j .if1 .l) (j .if1 .fill) (c .if7 .left)))
             ∙ h .same,
       ),
     )
@@ -151,6 +167,14 @@ absorb-into-spec =
     (λ c. omega arith)
     (λ c. omega arith)
     add-i-2
+    (λ c. omega arith)
+    (λ c. omega arith)
+    half-word-requires
+    (λ c. omega arith)
+    (λ c. omega arith)
+    (λ c. omega arith)
+    (λ c. omega arith)
+    add-i-3
     (λ c. omega arith)
     (λ c. omega arith)
     (λ c κs. omega arith)
