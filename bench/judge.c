@@ -7,6 +7,7 @@
 
 enum { MAX_BALLOTS = 4096, MAX_M = 12, DICE = 30, SEED = 86 };
 enum { COMMITMENT = 32, OPENING = 36 };
+enum { RATE_224 = 144, RATE_256 = 136 };
 enum { PARAMETERS = 0x01, NUMBERED_PARAMETERS = 0x0C, ELECTION = 4 };
 
 enum refusal {
@@ -44,12 +45,20 @@ enum refusal {
 static EVP_MD *sha3_224, *sha3_256;
 static EVP_MD_CTX *hashing, *prefix;
 
+/* Those of a judging: a digest takes one for each whole block and one for the padded rest. */
+static uint64_t permutations;
+
+static int rates_stand(void) {
+    return EVP_MD_get_block_size(sha3_224) == RATE_224 &&
+           EVP_MD_get_block_size(sha3_256) == RATE_256;
+}
+
 int judge_start(void) {
     sha3_224 = EVP_MD_fetch(NULL, "SHA3-224", NULL);
     sha3_256 = EVP_MD_fetch(NULL, "SHA3-256", NULL);
     hashing = EVP_MD_CTX_new();
     prefix = EVP_MD_CTX_new();
-    return sha3_224 && sha3_256 && hashing && prefix;
+    return sha3_224 && sha3_256 && hashing && prefix && rates_stand();
 }
 
 void judge_stop(void) {
@@ -66,7 +75,8 @@ static void check(int done) {
     }
 }
 
-static void hash(const EVP_MD *md, const uint8_t *m, size_t length, uint8_t *out) {
+static void hash(const EVP_MD *md, size_t rate, const uint8_t *m, size_t length, uint8_t *out) {
+    permutations += length / rate + 1;
     check(EVP_DigestInit_ex(hashing, md, NULL));
     check(EVP_DigestUpdate(hashing, m, length));
     check(EVP_DigestFinal_ex(hashing, out, NULL));
@@ -122,6 +132,7 @@ static void hash_prefix(struct board *b, uint8_t digest[28]) {
     if (b->hashed == 0) {
         check(EVP_DigestInit_ex(prefix, sha3_224, NULL));
     }
+    permutations += b->place / RATE_224 - b->hashed / RATE_224 + 1;
     check(EVP_DigestUpdate(prefix, b->record + b->hashed, b->place - b->hashed));
     b->hashed = b->place;
     check(EVP_MD_CTX_copy_ex(hashing, prefix));
@@ -146,7 +157,7 @@ static void draw(const struct board *b, uint32_t number, char last, uint8_t dige
     int length = snprintf(text, 12, "%u", number);
     memcpy(text + length, b->seed, SEED);
     text[length + SEED] = last;
-    hash(sha3_224, (const uint8_t *)text, (size_t)length + SEED + 1, digest);
+    hash(sha3_224, RATE_224, (const uint8_t *)text, (size_t)length + SEED + 1, digest);
 }
 
 static uint32_t drawn_mask(const struct board *b) {
@@ -191,7 +202,7 @@ static int below_modulus(const struct board *b, const uint8_t *openings, int cou
 static int openings_give(const uint8_t *openings, int count, const uint8_t *commitments, int step) {
     for (int i = 0; i < count; i++) {
         uint8_t digest[32];
-        hash(sha3_256, openings + OPENING * i, OPENING, digest);
+        hash(sha3_256, RATE_256, openings + OPENING * i, OPENING, digest);
         if (memcmp(digest, commitments + COMMITMENT * step * i, COMMITMENT) != 0) return 0;
     }
     return 1;
@@ -464,7 +475,10 @@ static int judge_board(struct board *b) {
 
 int judge(const uint8_t *record, size_t length, int drawn, size_t *place) {
     struct board b = {.record = record, .length = length, .drawn = drawn};
+    permutations = 0;
     int number = judge_board(&b);
     *place = number == 0 ? 0 : b.place;
     return number;
 }
+
+uint64_t judge_permutations(void) { return permutations; }

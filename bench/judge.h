@@ -15,4 +15,7 @@ void judge_stop(void);
  * 8 and 12 are met only if `drawn` is not 0. */
 int judge(const uint8_t *record, size_t length, int drawn, size_t *place);
 
+/* The calls of Keccak-f[1600] that the last judging took, counted at its digests. */
+uint64_t judge_permutations(void);
+
 #endif

@@ -22,13 +22,17 @@ double seconds(void) {
     return (double)now.tv_sec + 1e-9 * (double)now.tv_nsec;
 }
 
-double time_once(void (*run)(void)) {
-    double start = seconds();
-    run();
-    return seconds() - start;
+/* By chance, in steps of a cache line. */
+size_t some_of_page(void) {
+    static uint64_t state = 70;
+    state = 6364136223846793005 * state + 1442695040888963407;
+    return 64 * (1 + (state >> 58));
 }
 
+double time_once(void (*run)(void)) { return time_each(run, 1); }
+
 double time_each(void (*run)(void), unsigned runs) {
+    MOVE_STACK();
     double start = seconds();
     for (unsigned i = 0; i < runs; i++) run();
     return (seconds() - start) / runs;

@@ -3,6 +3,7 @@
 #ifndef SUPPORT_H
 #define SUPPORT_H
 
+#include <alloca.h>
 #include <stddef.h>
 #include <stdint.h>
 
@@ -11,6 +12,13 @@ void demand(int holds, const char *what);
 
 /* The processor's time, so that other programs weigh little. */
 double seconds(void);
+
+/* Moves the stack by some part of a page, in the function that says it: what has its frame across
+ * two pages is slower, and where the system puts the stack is chance, so each timing has another
+ * place. The compiler must not see that nothing uses the gap. */
+#define MOVE_STACK() __asm__ volatile("" : : "r"(alloca(some_of_page())) : "memory")
+size_t some_of_page(void);
+
 double time_once(void (*run)(void));
 
 /* The time of one run out of so many: runs of short things are many, so that what else the machine
