@@ -1,6 +1,7 @@
-/* Times of the product's judge and of an earlier one that does not know rule 21, whose names start
- * with before_, taken in turn in one run: their ratio on honest boards of 4,096 ballots, and what
- * boards that are bad for rule 21 take longer than before, as a share of an honest one's time. */
+/* Times of the product's judge and of an earlier one, whose names start with before_, taken in turn
+ * in one run: their ratio on honest boards of 4,096 ballots, and what boards that are bad for rule
+ * 21 take longer than before, as a share of an honest one's time. The earlier one may know that rule
+ * or not. */
 
 #include "copies.h"
 #include "inputs.h"
@@ -74,8 +75,8 @@ static void make_honest(int form) {
     honest[form][AS_DRAWN] = made;
 }
 
-/* Cut behind the ballots, where both judges stop: by 1, or ours by 21. So both read the same, and
- * what ours takes longer is its test of rule 21. */
+/* Cut behind the ballots, where both judges stop: by 1, or by 21 where they know it. So both read
+ * the same, and what ours takes longer than one that does not know it is its test of rule 21. */
 static void make_bad(int which) {
     uint32_t cut = PADDOCKYEAR_RULE_CUT_SHORT, copied = PADDOCKYEAR_RULE_COPIED_BALLOT;
     uint8_t *record = take(BALLOTS_END);
@@ -85,7 +86,9 @@ static void make_bad(int which) {
     bad[which].record = record;
     bad[which].length = BALLOTS_END;
     bad[which].now.due = bad_boards[which].due == copied ? copied : cut;
-    bad[which].before.due = cut;
+    uint32_t before = before_paddockyear_judge_plainly(record, BALLOTS_END);
+    demand(before == cut || before == bad[which].now.due, "the earlier judge finds otherwise");
+    bad[which].before.due = before;
 }
 
 static void make_boards(void) {

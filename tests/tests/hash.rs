@@ -52,6 +52,27 @@ fn splits_around_the_rate() {
     }
 }
 
+/// Behind each number of bytes in a block a part of some bytes, halves of a lane, lanes or blocks.
+#[test]
+fn parts_behind_every_start() {
+    let random = &mut Random::new(55);
+    for rate in [136, 144] {
+        let message = random.bytes(4 * rate);
+        for first in 0..=rate {
+            for length in [1, 3, 4, 5, 7, 8, 9, 12, rate - 1, rate, rate + 1, 2 * rate + 4] {
+                let second = first + length;
+                let parts = [&message[..first], &message[first..second], &message[second..]];
+                assert_eq!(hash::sha3_224_parts(parts), sha3::sha3_224(&message));
+                assert_eq!(hash::sha3_256_parts(parts), sha3::sha3_256(&message));
+                let whole = &message[..second];
+                let parts = [&message[..first], &message[first..second], &[]];
+                assert_eq!(hash::sha3_224_parts(parts), sha3::sha3_224(whole));
+                assert_eq!(hash::sha3_256_parts(parts), sha3::sha3_256(whole));
+            }
+        }
+    }
+}
+
 #[test]
 fn a_long_message() {
     let random = &mut Random::new(53);
