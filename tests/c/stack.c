@@ -111,7 +111,7 @@ static const struct row without_record[] = {
 };
 
 /* With less than they need, which shows that a thread has no more than it is given. */
-static const struct row starved[] = {ROW(sha3_256, 1 * KIB), ROW(judge_as_drawn, 32 * KIB), ROW(election, 32 * KIB)};
+static const struct row starved[] = {ROW(row_server, 1 * KIB), ROW(judge_as_drawn, 32 * KIB), ROW(election, 32 * KIB)};
 
 /* Every ballot has keys of its own, or it would be refused as a copy. */
 static void fill_keys(void) {
