@@ -6,6 +6,7 @@ use paddockyear_tests::edits::rounds::{parse, Edit};
 use paddockyear_tests::edits::sources::{Item, Sources};
 use paddockyear_tests::edits::translation::{translated, Library};
 use paddockyear_tests::edits::{faults, never_changed, resolved, unguarded, Run, Trial};
+use std::collections::BTreeMap;
 
 const LIB: &str = "\
 mod halves;
@@ -289,6 +290,25 @@ fn the_translation_has_every_edit_beside_the_code() {
         assert!(text.contains(part), "{part}");
     }
     assert!(!text.contains("ensures"));
+}
+
+/// A table that is edited is read by the edit that is on, at a place or as a whole.
+#[test]
+fn an_edited_table_is_a_call() {
+    let text = "const TABLE: [u32; 2] = [1, 2];\n\npub fn both(i: usize) -> u32 {\n    \
+                let whole = TABLE;\n    TABLE[i] + whole[i]\n}\n";
+    let files = BTreeMap::from([("src/lib.rt".to_string(), text.to_string())]);
+    let trial = Trial {
+        library: "c".to_string(),
+        edit: edit("a in TABLE for both", "src/lib.rt", "[1, 2]", "[1, 3]"),
+        item: "TABLE".to_string(),
+        contract: "both".to_string(),
+    };
+    let library =
+        Library { name: "c".to_string(), leans_on: Vec::new(), sources: Sources::new(files) };
+    let text = translated(&[library], &[trial]).expect("a translation");
+    assert!(text.contains("let whole = now_table();"), "{text}");
+    assert!(text.contains("now_table()[i] + whole[i]"), "{text}");
 }
 
 /// Types as the runoff has them: laid out for C, with arrays, truth values and other types in them,

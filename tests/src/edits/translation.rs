@@ -121,13 +121,16 @@ fn counted(library: &Library, text: &str) -> String {
     text.replace("crate::", &format!("{ROOT}::{}::", library.name))
 }
 
-/// The same, with the edited constants as calls.
+/// The same, with the edited constants as calls, where one is read or taken as a whole. As an array's
+/// length it stays: a call is no length.
 fn body(library: &Library, text: &str, trials: &[Trial]) -> String {
     let mut text = counted(library, text);
     let edited = trials.iter().filter(|trial| trial.library == library.name);
     for item in edited.filter_map(|trial| library.sources.at(&trial.item)) {
         if item.kind == Kind::Constant {
-            text = text.replace(&format!("{}[", item.name()), &format!("{}()[", now(item.name())));
+            let (name, call) = (item.name(), format!("{}()", now(item.name())));
+            text = text.replace(&format!("{name}["), &format!("{call}["));
+            text = text.replace(&format!("= {name};"), &format!("= {call};"));
         }
     }
     text
