@@ -269,7 +269,7 @@ fn joined(p: [u64; 5], q: [u64; 5], r: [u64; 5], s: [u64; 5], t: [u64; 5]) -> [u
     ]
 }
 
-// Four rounds, with the constants k0 to k3. Of all orders of the rows this one compiles best, wherever a linker puts the code.
+// Four rounds, with the constants k0 to k3. The rows stand in an order that compiles well wherever a linker puts the code.
 fn rounds(a: [u64; 25], k0: u64, k1: u64, k2: u64, k3: u64) -> [u64; 25]
     ensures { λ r. ⌜ r ≡ codeRound k3 (codeRound k2 (codeRound k1 (codeRound k0 a))) ⌝ }
 {
