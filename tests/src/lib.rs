@@ -4,6 +4,7 @@
 pub mod boards;
 pub mod contracts;
 pub mod crates;
+pub mod days;
 pub mod division;
 #[cfg(feature = "edited")]
 pub mod edited;

@@ -5,6 +5,7 @@ pub mod product;
 
 /// The reference alone.
 pub mod reference {
+    pub use crate::reference::calendar::{calendar, window_at};
     pub use crate::reference::columns::{offsets_server, row_server, split_server};
     pub use crate::reference::drawing::mask_entry;
     pub use crate::reference::election::election;

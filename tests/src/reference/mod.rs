@@ -1,5 +1,6 @@
 //! Document 01, and the items of document 02 that are built, in plain Rust: clarity before speed.
 
+pub mod calendar;
 pub mod columns;
 pub mod drawing;
 pub mod election;

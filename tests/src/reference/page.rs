@@ -1,5 +1,8 @@
 //! The texts of the programs' pages.
 
+use std::iter::once;
+
+use super::calendar::{calendar, Date, Day, Window, MINUTES_OF_A_DAY};
 use super::judge::{judge, parameters, Judging, Reader};
 use super::results::counted;
 use super::runoff::{Counted, End, Round, MOST_CANDIDATES};
@@ -81,4 +84,47 @@ fn round_line(number: usize, round: &Round, candidates: u32) -> String {
         End::Wins(_) | End::NoVoteCounts => "-".to_string(),
     };
     format!("{number}{counts}\t{leaves}\n")
+}
+
+/// What the program `calendar` writes for these arguments, if each of them has the form of a date.
+pub fn calendar_page(arguments: &[&str]) -> Option<String> {
+    let dates: Option<Vec<Date>> = arguments.iter().map(|argument| date_of(argument)).collect();
+    let dates = dates?;
+    let (&election, holidays) = dates.split_first()?;
+    let holidays: Vec<u32> = holidays.iter().map(|date| date.number()).collect();
+    let Ok(windows) = calendar(election, &holidays) else { return Some(refused(refusal::DAY)) };
+    let lines =
+        ["POLLING", "FIRST DICE", "SECOND DICE", "OBJECTIONS"].iter().zip(windows.in_order());
+    let line = |(name, window): (&&str, Window)| {
+        format!("{name}\t{}\t{}\n", moment(window.start), moment_before(window.end))
+    };
+    Some(lines.map(line).collect())
+}
+
+/// Four digits, two and two, with '-' between them.
+fn date_of(argument: &str) -> Option<Date> {
+    let [year, month, day] = argument.split('-').collect::<Vec<_>>().try_into().ok()?;
+    let number = |digits: &str, length: usize| {
+        let all = digits.len() == length && digits.bytes().all(|digit| digit.is_ascii_digit());
+        all.then(|| digits.parse().expect("at most four digits"))
+    };
+    Some(Date::new(number(year, 4)?, number(month, 2)?, number(day, 2)?))
+}
+
+/// A minute as the clock has it.
+fn moment(minute: u64) -> String {
+    written(minute / MINUTES_OF_A_DAY, minute % MINUTES_OF_A_DAY)
+}
+
+/// A window's end, of which midnight is the 24:00 of the day before.
+fn moment_before(end: u64) -> String {
+    let day = (end - 1) / MINUTES_OF_A_DAY;
+    written(day, end - day * MINUTES_OF_A_DAY)
+}
+
+fn written(day: u64, minute: u64) -> String {
+    let day = once(Day::FIRST).chain(Day::FIRST.later()).nth(day as usize).expect("no end");
+    let Date { year, month, day: number } = day.date;
+    let (hours, minutes) = (minute / 60, minute % 60);
+    format!("{:?} {year}-{month:02}-{number:02} {hours:02}:{minutes:02}", day.weekday())
 }

@@ -27,6 +27,7 @@ pub mod refusal {
     pub const PERMUTATION: u8 = 19;
     pub const CANDIDATES: u8 = 20;
     pub const COPIED_BALLOT: u8 = 21;
+    pub const DAY: u8 = 22;
 }
 
 /// By document 02's item 3.

@@ -1,5 +1,7 @@
 //! Tests of the reference itself.
 
+#[path = "../suites/calendar/mod.rs"]
+mod calendar;
 #[path = "../suites/columns.rs"]
 mod columns;
 mod conventions;
@@ -9,6 +11,7 @@ mod election;
 mod judge;
 #[path = "../suites/lookup.rs"]
 mod lookup;
+mod pages;
 #[path = "../suites/parts/mod.rs"]
 mod parts;
 #[path = "../suites/results.rs"]
