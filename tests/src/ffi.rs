@@ -1,6 +1,7 @@
 //! The faces of the product's static library, as include/paddockyear.h has them: a lent slice is
 //! a pointer and then a length. One module for each group of entries.
 
+pub mod calendar;
 pub mod columns;
 pub mod election;
 pub mod hash;

@@ -3,8 +3,10 @@
 
 use std::error::Error;
 use std::fmt;
+use std::ops::Range;
 
 use crate::ffi;
+use crate::reference::calendar::Date;
 use crate::reference::election::DiceTable;
 use crate::reference::runoff::{Candidate, MOST_CANDIDATES};
 use crate::reference::tablet::SplitVote;
@@ -26,7 +28,7 @@ impl fmt::Display for Refusal {
 impl Error for Refusal {}
 
 /// The papers' words for each number.
-const RULES: [&str; 22] = [
+const RULES: [&str; 23] = [
     "",
     "the record stops inside a command or before 0B",
     "a command byte that is not due",
@@ -49,6 +51,7 @@ const RULES: [&str; 22] = [
     "a permutation that is none",
     "the number of candidates outside 1 to 9",
     "a ballot with a commitment equal to one of an earlier ballot, at whichever places",
+    "a day that does not exist in 2000 to 2199, or a holiday not after the one before it",
 ];
 
 fn done(answer: u32) -> Result<(), Refusal> {
@@ -263,4 +266,54 @@ pub fn runoff(record: &[u8], candidates: u32) -> Result<Runoff, Refusal> {
     let [blank, spoiled] = counts;
     let candidates = table.into_iter().map(ranked).collect();
     Ok(Runoff { winner: number(winner), blank, spoiled, candidates })
+}
+
+/// An election's windows in minutes from 2000-01-01 00:00.
+#[derive(Clone, Debug, PartialEq, Eq)]
+pub struct Calendar {
+    pub polling: Range<u64>,
+    pub first_dice: Range<u64>,
+    pub second_dice: Range<u64>,
+    pub objections: Range<u64>,
+}
+
+/// What is open.
+#[derive(Clone, Copy, Debug, PartialEq, Eq)]
+pub enum Window {
+    Polling,
+    FirstDice,
+    SecondDice,
+    Objections,
+}
+
+/// The windows of an election on this day; the holidays are rising.
+pub fn calendar(election: Date, holidays: &[Date]) -> Result<Calendar, Refusal> {
+    let mut windows = [0; 8];
+    done(ffi::calendar::calendar(election, Some(&listed(holidays)), &mut windows))?;
+    let [a, b, c, d, e, f, g, h] = windows;
+    Ok(Calendar { polling: a..b, first_dice: c..d, second_dice: e..f, objections: g..h })
+}
+
+/// What is open at a minute, of an election on this day.
+pub fn window_at(
+    election: Date,
+    holidays: &[Date],
+    minute: u64,
+) -> Result<Option<Window>, Refusal> {
+    let mut window = 0;
+    done(ffi::calendar::window_at(election, Some(&listed(holidays)), minute, &mut window))?;
+    Ok(match window {
+        1 => Some(Window::Polling),
+        2 => Some(Window::FirstDice),
+        3 => Some(Window::SecondDice),
+        4 => Some(Window::Objections),
+        _ => None,
+    })
+}
+
+/// As numbers. 0, which is no day, stands for a date whose number would be another's.
+fn listed(holidays: &[Date]) -> Vec<u32> {
+    let fits = |date: &Date| date.year < 10_000 && date.month < 100 && date.day < 100;
+    let number = |date: &Date| if fits(date) { date.number() } else { 0 };
+    holidays.iter().map(number).collect()
 }

@@ -1,5 +1,6 @@
-//! The programs' pages beside the reference's: `PADDOCKYEAR_PROGRAM` names the program `scrutineer`
-//! and `PADDOCKYEAR_TELLER` the program `teller`, which are else looked for in `../target/bin`.
+//! The pages of the programs beside the reference's: `PADDOCKYEAR_PROGRAM` names `scrutineer`,
+//! `PADDOCKYEAR_TELLER` names `teller` and `PADDOCKYEAR_CALENDAR` names `calendar`, which are else
+//! looked for in `../target/bin`.
 
 use std::ffi::OsStr;
 use std::fs;
@@ -12,9 +13,13 @@ use paddockyear_tests::boards::copies::*;
 use paddockyear_tests::boards::damage::damaged;
 use paddockyear_tests::boards::samples::{promised, stored, with_votes, RANKED};
 use paddockyear_tests::boards::{first_command, form, honest, inputs, parameters, BOTH, FORMS};
+use paddockyear_tests::days::{every_day, public_holidays, runs, some_days, weekends, DAYS};
 use paddockyear_tests::random::Random;
+use paddockyear_tests::reference::calendar::Date;
 use paddockyear_tests::reference::judge::Judging;
-use paddockyear_tests::reference::page::{candidates_of, page, teller_page, LONGEST};
+use paddockyear_tests::reference::page::{
+    calendar_page, candidates_of, page, teller_page, LONGEST,
+};
 use paddockyear_tests::reference::terms::{Form, Parameters};
 
 fn program(variable: &str, name: &str) -> PathBuf {
@@ -28,6 +33,10 @@ fn scrutineer() -> PathBuf {
 
 fn teller() -> PathBuf {
     program("PADDOCKYEAR_TELLER", "teller")
+}
+
+fn calendar() -> PathBuf {
+    program("PADDOCKYEAR_CALENDAR", "calendar")
 }
 
 /// What a program writes for this input, which it may stop reading where it is too long.
@@ -339,4 +348,181 @@ fn teller_on_unreadable_input() {
     let output = Command::new(teller()).arg("3").stdin(folder).output().expect("the program runs");
     assert_eq!(output.stdout, b"");
     assert_eq!(output.stderr, b"standard input cannot be read\n");
+}
+
+/// The page of `calendar`, which is the reference's.
+fn dated(arguments: &[&str]) -> String {
+    let words: Vec<&OsStr> = arguments.iter().map(OsStr::new).collect();
+    let text = page_of(output(calendar(), &words, &[]));
+    let some = &arguments[..arguments.len().min(20)];
+    assert_eq!(Some(&text), calendar_page(arguments).as_ref(), "{some:?}");
+    text
+}
+
+fn words(days: &[usize]) -> Vec<String> {
+    let word = |Date { year, month, day }| format!("{year}-{month:02}-{day:02}");
+    days.iter().map(|&day| word(every_day()[day])).collect()
+}
+
+/// An election with these holidays, by their places among all days.
+fn dated_days(election: usize, holidays: &[usize]) -> String {
+    let words = words(&[&[election], holidays].concat());
+    dated(&words.iter().map(String::as_str).collect::<Vec<_>>())
+}
+
+#[test]
+fn calendars_worked_out_by_hand() {
+    let polling = "POLLING\tTue 2026-03-31 08:00\tTue 2026-03-31 20:00\n";
+    let first = "FIRST DICE\tThu 2026-04-02 10:00\tThu 2026-04-02 12:00\n";
+    let second = "SECOND DICE\tFri 2026-04-03 10:00\tFri 2026-04-03 12:00\n";
+    let objections = "OBJECTIONS\tFri 2026-04-03 12:00\tTue 2026-04-21 24:00\n";
+    let due = [polling, first, second, objections].concat();
+    assert_eq!(dated(&["2026-03-31", "2026-04-17", "2026-04-20"]), due);
+    let objections = "OBJECTIONS\tFri 2026-04-03 12:00\tFri 2026-04-17 24:00\n";
+    assert_eq!(dated(&["2026-03-31"]), [polling, first, second, objections].concat());
+    let second = "SECOND DICE\tTue 2026-04-07 10:00\tTue 2026-04-07 12:00\n";
+    let objections = "OBJECTIONS\tTue 2026-04-07 12:00\tTue 2026-04-21 24:00\n";
+    let due = [polling, first, second, objections].concat();
+    assert_eq!(dated(&["2026-03-31", "2026-04-03", "2026-04-06"]), due);
+}
+
+/// Of 2000, and of 2199 with windows in 2200; an election on each weekday.
+#[test]
+fn calendars_of_the_first_and_last_days() {
+    let due = "POLLING\tTue 2199-12-31 08:00\tTue 2199-12-31 20:00\n\
+               FIRST DICE\tThu 2200-01-02 10:00\tThu 2200-01-02 12:00\n\
+               SECOND DICE\tFri 2200-01-03 10:00\tFri 2200-01-03 12:00\n\
+               OBJECTIONS\tFri 2200-01-03 12:00\tFri 2200-01-17 24:00\n";
+    assert_eq!(dated(&["2199-12-31"]), due);
+    assert_eq!(dated(&["2199-12-31", "2199-12-31"]), due);
+    let due = "POLLING\tSat 2000-01-01 08:00\tSat 2000-01-01 20:00\n\
+               FIRST DICE\tTue 2000-01-04 10:00\tTue 2000-01-04 12:00\n\
+               SECOND DICE\tWed 2000-01-05 10:00\tWed 2000-01-05 12:00\n\
+               OBJECTIONS\tWed 2000-01-05 12:00\tWed 2000-01-19 24:00\n";
+    assert_eq!(dated(&["2000-01-01"]), due);
+    for election in (0..30).chain(36_570..36_600).chain(DAYS - 30..DAYS) {
+        dated_days(election, &[]);
+    }
+}
+
+#[test]
+fn calendars_with_random_holidays() {
+    let random = &mut Random::new(420);
+    let lists = [some_days(random, 3), runs(random, 20), public_holidays()];
+    for round in 0..150 {
+        let (election, list) = (random.index(DAYS), &lists[round % 3]);
+        let near = election.saturating_sub(5)..election + 60;
+        let holidays: Vec<usize> = list.iter().copied().filter(|day| near.contains(day)).collect();
+        dated_days(election, &holidays);
+    }
+}
+
+/// Some thousands, and every day there is.
+#[test]
+fn calendars_with_many_holidays() {
+    let whole: Vec<usize> = (0..DAYS).collect();
+    for holidays in [&public_holidays(), &weekends(), &whole[..5_000], &whole] {
+        for election in [0, 9_586, DAYS - 1] {
+            dated_days(election, holidays);
+        }
+    }
+}
+
+#[test]
+fn refused_calendars() {
+    let none = [
+        "2026-02-29",
+        "2100-02-29",
+        "1999-12-31",
+        "2200-01-01",
+        "0000-00-00",
+        "9999-99-99",
+        "2026-00-10",
+        "2026-13-10",
+        "2026-04-00",
+        "2026-04-31",
+        "2026-12-32",
+        "0026-03-31",
+    ];
+    for day in none {
+        for arguments in [
+            &[day][..],
+            &[day, "2026-04-17"],
+            &["2026-03-31", day],
+            &["2026-03-31", day, "2199-12-31"],
+            &["2026-03-31", "2000-01-01", day],
+            &[day, day],
+        ] {
+            assert_eq!(dated(arguments), "REFUSED 22\n", "{arguments:?}");
+        }
+    }
+    for falling in [["2026-04-17", "2026-04-17"], ["2026-04-20", "2026-04-17"]] {
+        let [first, second] = falling;
+        assert_eq!(dated(&["2026-03-31", first, second]), "REFUSED 22\n");
+        assert_eq!(dated(&["2026-03-31", "2025-01-01", first, second]), "REFUSED 22\n");
+    }
+}
+
+/// Nothing but how it is used.
+fn check_usage(arguments: &[&OsStr]) {
+    let output = output(calendar(), arguments, &[]);
+    let line = String::from_utf8(output.stderr).expect("plain text");
+    assert_eq!(output.stdout, b"", "{arguments:?}");
+    assert!(line.starts_with("usage: calendar"), "{arguments:?}: {line}");
+    assert!(line.ends_with('\n') && line.lines().count() == 1, "{arguments:?}: {line}");
+}
+
+/// Words that have not the form of a date, with bars between them; the first is empty.
+const NO_DATES: &str =
+    "| |-|--|2|2026|2026-03|2026-03-3|2026-03-311|12026-03-31|2026-3-31|2026-03-31 |\
+    26-03-31|026-003-31|2026-003-1|31-03-2026|20260331|2026-0331|2026-03-31-|-2026-03-31|\
+    2026/03/31|2026.03.31|2026 03 31|2026--3-31|2026-03--1|+026-03-31|2026-+3-31|2026-03-+1|\
+    2026- 3-31|2026-03- 1|2026-03-1 |2026-0x-31|0x26-03-31|abcd-ef-gh|2026-MAR-1|2026-03-3\u{e9}|\
+    2026-03-\u{663}|2026-03-31\n|2026-03-3\n| 2026-03-31|today|--help";
+
+/// Those, and a date with each of its characters changed.
+fn malformed() -> Vec<String> {
+    let mut words: Vec<String> = NO_DATES.split('|').map(str::to_string).collect();
+    for place in 0..10 {
+        for character in ["/", ":", "a", " ", "-", "0"] {
+            let mut word = "2026-03-31".to_string();
+            word.replace_range(place..place + 1, character);
+            let fits = if matches!(place, 4 | 7) { "-" } else { "0" };
+            if character != fits {
+                words.push(word);
+            }
+        }
+    }
+    words.push("2026-03-31".repeat(100));
+    words
+}
+
+/// As the election's day, and as first and last holiday, also behind a day that would be refused.
+#[test]
+fn calendar_and_bad_arguments() {
+    check_usage(&[]);
+    let mut wrong: Vec<Vec<u8>> = malformed().into_iter().map(String::into_bytes).collect();
+    assert!(wrong.len() > 80);
+    wrong.extend([b"2026-03-3\xFF".to_vec(), b"\xFF026-03-31".to_vec()]);
+    let [election, holiday, none] = ["2026-03-31", "2026-04-17", "2026-02-29"].map(OsStr::new);
+    for word in &wrong {
+        let word = OsStr::from_bytes(word);
+        check_usage(&[word]);
+        check_usage(&[word, holiday]);
+        check_usage(&[election, word]);
+        check_usage(&[election, word, holiday]);
+        check_usage(&[election, holiday, word]);
+        check_usage(&[none, word]);
+        check_usage(&[election, none, word]);
+    }
+}
+
+/// The reference takes them for malformed too.
+#[test]
+fn arguments_of_no_page() {
+    assert_eq!(calendar_page(&[]), None);
+    for word in malformed() {
+        assert_eq!(calendar_page(&[&word]), None, "{word}");
+        assert_eq!(calendar_page(&["2026-03-31", &word]), None, "{word}");
+    }
 }

@@ -2,6 +2,7 @@
 
 use paddockyear_tests::boards::{board_with_dice, form, inputs, modulus, BOTH};
 use paddockyear_tests::random::Random;
+use paddockyear_tests::reference::calendar::Date;
 use paddockyear_tests::reference::terms::{Form, Parameters};
 use paddockyear_tests::reference::writer::Inputs;
 use paddockyear_tests::wrapper::*;
@@ -137,7 +138,9 @@ fn refused_ballots() {
     assert_eq!(Refusal(20).to_string(), candidates);
     let copied = "rule 21: a ballot with a commitment equal to one of an earlier ballot, at whichever places";
     assert_eq!(Refusal(21).to_string(), copied);
-    assert_eq!(Refusal(22).to_string(), "rule 22: no such rule");
+    let day = "rule 22: a day that does not exist in 2000 to 2199, or a holiday not after the one before it";
+    assert_eq!(Refusal(22).to_string(), day);
+    assert_eq!(Refusal(23).to_string(), "rule 23: no such rule");
 }
 
 #[test]
@@ -287,4 +290,58 @@ fn the_flat_order() {
 #[test]
 fn the_flat_order_of_many_ballots() {
     check_flat_order(&mut Random::new(247), 4096, 1);
+}
+
+/// The fourteenth day is a holiday, and so is the Monday behind it.
+#[test]
+fn calendar_of_an_election() {
+    let april = |day| Date::new(2026, 4, day);
+    let (election, holidays) = (Date::new(2026, 3, 31), [april(17), april(20)]);
+    let due = Calendar {
+        polling: 13_804_320..13_805_040,
+        first_dice: 13_807_320..13_807_440,
+        second_dice: 13_808_760..13_808_880,
+        objections: 13_808_880..13_835_520,
+    };
+    assert_eq!(calendar(election, &holidays), Ok(due.clone()));
+    let early = Calendar { objections: 13_808_880..13_829_760, ..due };
+    assert_eq!(calendar(election, &[]), Ok(early));
+    for (minute, window) in [
+        (0, None),
+        (13_804_319, None),
+        (13_804_320, Some(Window::Polling)),
+        (13_805_040, None),
+        (13_807_439, Some(Window::FirstDice)),
+        (13_808_879, Some(Window::SecondDice)),
+        (13_808_880, Some(Window::Objections)),
+        (13_835_519, Some(Window::Objections)),
+        (13_835_520, None),
+    ] {
+        assert_eq!(window_at(election, &holidays, minute), Ok(window), "{minute}");
+    }
+    assert_eq!(window_at(election, &[], 13_829_760), Ok(None));
+}
+
+/// As election day and as holiday, also with numbers that would be another's.
+#[test]
+fn refused_days() {
+    let easter = Date::new(2026, 4, 5);
+    for (year, month, day) in [
+        (2026, 2, 29),
+        (1999, 12, 31),
+        (2200, 1, 1),
+        (2026, 4, 0),
+        (2025, 103, 31),
+        (2026, 2, 131),
+        (2026 + (1 << 28), 3, 31),
+        (u32::MAX, u32::MAX, u32::MAX),
+    ] {
+        let none = Date::new(year, month, day);
+        assert_eq!(calendar(none, &[]), Err(Refusal(22)), "{none:?}");
+        assert_eq!(calendar(easter, &[none]), Err(Refusal(22)), "{none:?}");
+        assert_eq!(window_at(easter, &[none], 13_804_320), Err(Refusal(22)), "{none:?}");
+    }
+    assert_eq!(calendar(easter, &[easter, easter]), Err(Refusal(22)));
+    assert_eq!(window_at(easter, &[easter, easter], 0), Err(Refusal(22)));
+    assert!(calendar(easter, &[easter]).is_ok());
 }

@@ -1,6 +1,7 @@
 //! The reference's answers, once the product's are found to be the same: numbers, and what lent
 //! buffers hold afterwards, with nothing written around them.
 
+mod calendar;
 mod columns;
 mod election;
 mod hash;
@@ -10,6 +11,7 @@ mod results;
 mod runoff;
 mod tablet;
 
+pub use calendar::{calendar, window_at};
 pub use columns::{offsets_server, row_server, split_server};
 pub use election::election;
 pub use hash::{keccak_f, sha3_224, sha3_256};
