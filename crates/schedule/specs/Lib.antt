@@ -1,0 +1,5 @@
+pub mod Dates
+pub mod Working
+pub mod Windows
+pub mod Told
+pub mod Page
