@@ -1,0 +1,3 @@
+-- What the proofs of several functions use; then what the definitions mean.
+mod Formed
+pub mod Reading
