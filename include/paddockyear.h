@@ -4,9 +4,9 @@
  *
  * SLICES. A slice is a pointer and a length; the length counts elements, not bytes. Where the length is 0 the pointer may be null. No
  * output may overlap any other slice of its call (PADDOCKYEAR_RESTRICT tells the compiler so); inputs may overlap each other, or be the
- * same. What is lent without a length (out of a hash, lanes, *mask, *place, *pairs, *winner, *blank, *spoiled) must be there. All is lent
- * for the call only: no call keeps a pointer, and nothing is kept from call to call. A call writes to its outputs alone, so that calls may
- * run at the same time while nobody else writes what is lent to them.
+ * same. What is lent without a length (out of a hash, lanes, *mask, *place, *pairs, *winner, *blank, *spoiled, *windows, *window) must be
+ * there. All is lent for the call only: no call keeps a pointer, and nothing is kept from call to call. A call writes to its outputs alone,
+ * so that calls may run at the same time while nobody else writes what is lent to them.
  *
  * ANSWERS. An answer is 0, or the number of a rule that is broken: enum paddockyear_number below. Each function says
  * which numbers it can answer. A call that is refused has changed nothing.
@@ -15,7 +15,8 @@
  * slice (18), then the rest in rising number, each over its whole input. The judge goes command by command; the first faulty one decides.
  *
  * STACK. At most PADDOCKYEAR_STACK_WRITING bytes for each part and the election, PADDOCKYEAR_STACK_JUDGING for judging, the first fault and
- * the announced votes, PADDOCKYEAR_STACK for every other call, with as many ballots and lists as there may be (measured, not proved).
+ * the announced votes, PADDOCKYEAR_STACK for every other call, with as many ballots, lists and holidays as there may be (measured, not
+ * proved).
  *
  * TERMS. M is the modulus, n the number of ballots; there are 2m lists, of which m are compared and m opened. In the arguments:
  *     numbered   the form of the record's first command: 0 for command 01, which names no election; any other value for command 0C, which
@@ -73,6 +74,7 @@ enum paddockyear_number {
     PADDOCKYEAR_RULE_PERMUTATION = 19,
     PADDOCKYEAR_RULE_CANDIDATES = 20, /* by the runoff only */
     PADDOCKYEAR_RULE_COPIED_BALLOT = 21,
+    PADDOCKYEAR_RULE_DAY = 22, /* by the calendar only */
 
     PADDOCKYEAR_POSTED_OTHERWISE = 101, /* both by receipt check and lookup only; they are no rules, and no refusals */
     PADDOCKYEAR_NOT_POSTED = 102
@@ -104,6 +106,7 @@ static inline const char *paddockyear_rule(uint32_t number) {
     case PADDOCKYEAR_RULE_PERMUTATION: return "a permutation that is none";
     case PADDOCKYEAR_RULE_CANDIDATES: return "the number of candidates outside 1 to 9";
     case PADDOCKYEAR_RULE_COPIED_BALLOT: return "a ballot with a commitment equal to one of an earlier ballot, at whichever places";
+    case PADDOCKYEAR_RULE_DAY: return "a day that does not exist from 2000 to 2199, or a holiday not after the one before it";
     case PADDOCKYEAR_POSTED_OTHERWISE: return "posted otherwise (the id is there, the hash differs)";
     case PADDOCKYEAR_NOT_POSTED: return "not posted (no such id)";
     default: return "no number that is answered";
@@ -428,6 +431,53 @@ uint32_t paddockyear_runoff(const uint32_t *votes, size_t votes_length, uint32_t
                             struct paddockyear_candidate *PADDOCKYEAR_RESTRICT table, size_t table_length,
                             uint32_t *PADDOCKYEAR_RESTRICT winner, uint64_t *PADDOCKYEAR_RESTRICT blank,
                             uint64_t *PADDOCKYEAR_RESTRICT spoiled);
+
+/* ---- The election calendar -------------------------------------------------------------------------------------------------------- */
+
+/* Minutes are counted from 2000-01-01 00:00, 1440 for each day: 08:00 of 2000-01-02 is 1920. They are those of the clock where the election
+ * is held. Time zones and summer time are not known here: whoever turns the time of a machine into such a minute takes local time. */
+
+/* A window is open from the minute start on, and is shut in the minute end. */
+struct paddockyear_window {
+    uint64_t start;
+    uint64_t end;
+};
+
+struct paddockyear_windows {
+    struct paddockyear_window polling, first_dice, second_dice, objections;
+};
+
+/* What paddockyear_window_at gives in *window. No minute is in two windows. */
+enum paddockyear_window_number {
+    PADDOCKYEAR_NO_WINDOW = 0,
+    PADDOCKYEAR_POLLING = 1,
+    PADDOCKYEAR_FIRST_DICE = 2,
+    PADDOCKYEAR_SECOND_DICE = 3,
+    PADDOCKYEAR_OBJECTIONS = 4
+};
+
+/* The windows of an election, by its day and the holidays, into *windows. Working days are Monday to Friday without the holidays.
+ *     polling       08:00 to 20:00 of the election day, whichever day that is
+ *     first dice    10:00 to 12:00 of the second working day after it
+ *     second dice   10:00 to 12:00 of the next working day after that one
+ *     objections    from 12:00 of the second dice's day to 24:00 of the fourteenth day after it, or where that one is a holiday, to 24:00
+ *                   of the next working day
+ *
+ * The election day is a date of the Gregorian calendar from 2000-01-01 to 2199-12-31: year 2000 to 2199, month 1 to 12, day from 1 on. A
+ * holiday is such a date in one number, year * 10000 + month * 100 + day, as in 20261225. Holidays rise: each is after the one before it.
+ * There may be none or any number of them, on weekends and on the election day too; those that no window meets make no difference. So a
+ * list for many years is taken as it is, in one pass. The windows of the last days of 2199 run on into 2200, in which only weekends are
+ * known.
+ *
+ * Answers 0; 22 for an election day or a holiday that does not exist in those years, or a holiday that is not after the one before it.
+ * With 22, *windows is left as it was. */
+uint32_t paddockyear_calendar(uint32_t year, uint32_t month, uint32_t day, const uint32_t *holidays, size_t holidays_length,
+                              struct paddockyear_windows *PADDOCKYEAR_RESTRICT windows);
+
+/* The window of an election that a minute is in, into *window: a number of enum paddockyear_window_number. The minute may be any. Election
+ * day, holidays and answers are those of paddockyear_calendar. With 22, *window is left as it was. */
+uint32_t paddockyear_window_at(uint32_t year, uint32_t month, uint32_t day, const uint32_t *holidays, size_t holidays_length,
+                               uint64_t minute, uint32_t *PADDOCKYEAR_RESTRICT window);
 
 #ifdef __cplusplus
 }

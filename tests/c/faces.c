@@ -1,7 +1,7 @@
 /* What include/paddockyear.h says beside the calls that officer.c makes: the words for each number, the lengths, empty slices with null
- * pointers, inputs that overlap, lane order, places of faults, what lies behind a tally's last pair or a runoff's table, the functions over
- * structs beside the long ones, copied ballots, and the two forms of a record, by themselves and beside each other. It is compiled as C99
- * and as C++; a call that answers anything else than due ends it with 1. */
+ * pointers, inputs that overlap, lane order, places of faults, what lies behind a tally's last pair or a runoff's table, calendars, the
+ * functions over structs beside the long ones, copied ballots, and the two forms of a record, by themselves and beside each other. It is
+ * compiled as C99 and as C++; a call that answers anything else than due ends it with 1. */
 
 #include "paddockyear.h"
 
@@ -10,7 +10,7 @@
 #include <string.h>
 
 enum { M = 9, N = 3, COMPARED = 2 };
-enum { BALLOT = PADDOCKYEAR_COMMAND_LENGTH, KEYS = PADDOCKYEAR_BALLOT_KEYS_LENGTH, KEY = 32, LAST_RULE = 21 };
+enum { BALLOT = PADDOCKYEAR_COMMAND_LENGTH, KEYS = PADDOCKYEAR_BALLOT_KEYS_LENGTH, KEY = 32, LAST_RULE = 22 };
 
 #define LENGTH(array) (sizeof(array) / sizeof((array)[0]))
 #define LENT(array) (array), LENGTH(array)
@@ -74,7 +74,7 @@ static uint32_t same_words(uint32_t a, uint32_t b) { return strcmp(paddockyear_r
 
 /* Each number has words, and they are its own. */
 static void compare_words(void) {
-    EXPECT(LAST_RULE, PADDOCKYEAR_RULE_COPIED_BALLOT);
+    EXPECT(LAST_RULE, PADDOCKYEAR_RULE_DAY);
     for (uint32_t number = 0; number <= LAST_RULE; number++) {
         EXPECT(0, same_words(number, UINT32_MAX));
         for (uint32_t other = 0; other < number; other++) EXPECT(0, same_words(number, other));
@@ -416,6 +416,93 @@ static void run_off(void) {
     report("runoffs");
 }
 
+/* Windows that no calendar has. */
+static const struct paddockyear_windows unset = {{90, 91}, {92, 93}, {94, 95}, {96, 97}};
+
+/* A refused calendar changes neither the windows nor the number of one. */
+static void refuse_calendar(uint32_t year, uint32_t month, uint32_t day, const uint32_t *holidays, size_t length) {
+    struct paddockyear_windows windows = unset;
+    uint32_t window = 77;
+    EXPECT(22, paddockyear_calendar(year, month, day, holidays, length, &windows));
+    EXPECT(0, (uint32_t)memcmp(&windows, &unset, sizeof unset));
+    EXPECT(22, paddockyear_window_at(year, month, day, holidays, length, 0, &window));
+    EXPECT(77, window);
+}
+
+/* Days that do not exist, as election days and, where they have such a number, behind a holiday that does. */
+static void refuse_days(void) {
+    static const uint32_t days[][3] = {{1999, 12, 31}, {2200, 1, 1},  {2026, 0, 1},  {2026, 13, 1}, {2026, 1, 0},  {2026, 1, 32},
+                                       {2026, 2, 29},  {2100, 2, 29}, {2096, 2, 30}, {2026, 4, 31}, {2026, 12, 32}};
+    for (size_t i = 0; i < LENGTH(days); i++) {
+        const uint32_t holidays[] = {20000101, days[i][0] * 10000 + days[i][1] * 100 + days[i][2]};
+        refuse_calendar(days[i][0], days[i][1], days[i][2], NONE);
+        refuse_calendar(2026, 3, 31, LENT(holidays));
+        refuse_calendar(2026, 3, 31, holidays + 1, 1);
+    }
+    refuse_calendar(0, 0, 0, NONE);
+    refuse_calendar(UINT32_MAX, 3, 31, NONE);
+    refuse_calendar(2026, UINT32_MAX, 31, NONE);
+    refuse_calendar(2026, 3, UINT32_MAX, NONE);
+    report("days that do not exist");
+}
+
+static void refuse_holidays(void) {
+    static const uint32_t twice[] = {20260403, 20260403}, falling[] = {20260403, 20260406, 20260404}, none[] = {0}, last[] = {UINT32_MAX};
+    refuse_calendar(2026, 3, 31, LENT(twice));
+    refuse_calendar(2026, 3, 31, LENT(falling));
+    refuse_calendar(2026, 3, 31, LENT(none));
+    refuse_calendar(2026, 3, 31, LENT(last));
+    report("holidays that do not rise");
+}
+
+/* By the days of election, dice and objections' end, that of 2000-01-01 being 0: the windows as C's structs have them, and each by its
+ * first minute and its last, with no window before the first one and behind the last. */
+static void expect_windows(const uint32_t *date, const uint32_t *holidays, size_t length, const uint64_t *days) {
+    const uint64_t due[] = {days[0] * 1440 + 480, days[0] * 1440 + 1200, days[1] * 1440 + 600, days[1] * 1440 + 720,
+                            days[2] * 1440 + 600, days[2] * 1440 + 720,  days[2] * 1440 + 720, days[3] * 1440 + 1440};
+    struct paddockyear_windows windows = unset;
+    uint32_t window = 77;
+    EXPECT((uint32_t)sizeof due, (uint32_t)sizeof windows);
+    EXPECT(0, paddockyear_calendar(date[0], date[1], date[2], holidays, length, &windows));
+    EXPECT(1, windows.polling.start == due[0] && windows.polling.end == due[1]);
+    EXPECT(1, windows.first_dice.start == due[2] && windows.first_dice.end == due[3]);
+    EXPECT(1, windows.second_dice.start == due[4] && windows.second_dice.end == due[5]);
+    EXPECT(1, windows.objections.start == due[6] && windows.objections.end == due[7]);
+    for (uint32_t number = PADDOCKYEAR_POLLING; number <= PADDOCKYEAR_OBJECTIONS; number++) {
+        uint64_t start = due[2 * number - 2], end = due[2 * number - 1];
+        EXPECT(0, paddockyear_window_at(date[0], date[1], date[2], holidays, length, start - 1, &window));
+        EXPECT(number == PADDOCKYEAR_OBJECTIONS ? PADDOCKYEAR_SECOND_DICE : PADDOCKYEAR_NO_WINDOW, window);
+        EXPECT(0, paddockyear_window_at(date[0], date[1], date[2], holidays, length, start, &window));
+        EXPECT(number, window);
+        EXPECT(0, paddockyear_window_at(date[0], date[1], date[2], holidays, length, end - 1, &window));
+        EXPECT(number, window);
+        EXPECT(0, paddockyear_window_at(date[0], date[1], date[2], holidays, length, end, &window));
+        EXPECT(number == PADDOCKYEAR_SECOND_DICE ? PADDOCKYEAR_OBJECTIONS : PADDOCKYEAR_NO_WINDOW, window);
+    }
+    EXPECT(0, paddockyear_window_at(date[0], date[1], date[2], holidays, length, UINT64_MAX, &window));
+    EXPECT(PADDOCKYEAR_NO_WINDOW, window);
+}
+
+/* The first day, a Saturday; a leap day; the last day, whose windows run on into 2200; and 2026-03-31, where holidays move the objections'
+ * end, or the second dice, or nothing. */
+static void set_calendars(void) {
+    static const uint32_t first[] = {2000, 1, 1}, leap[] = {2000, 2, 29}, last[] = {2199, 12, 31}, date[] = {2026, 3, 31};
+    static const uint32_t at_end[] = {20260417, 20260420}, at_dice[] = {20260403, 20260406};
+    static const uint32_t aside[] = {20000101, 20260330, 20260331, 20260404, 20260422, 21991231};
+    static const uint64_t of_first[] = {0, 3, 4, 18}, of_leap[] = {59, 61, 62, 76}, of_last[] = {73048, 73050, 73051, 73065};
+    static const uint64_t plain[] = {9586, 9588, 9589, 9603};
+    static const uint64_t later_end[] = {9586, 9588, 9589, 9607}, later_dice[] = {9586, 9588, 9593, 9607};
+    expect_windows(first, NONE, of_first);
+    expect_windows(leap, NONE, of_leap);
+    expect_windows(last, NONE, of_last);
+    expect_windows(last, LENT(aside), of_last);
+    expect_windows(date, NONE, plain);
+    expect_windows(date, LENT(aside), plain);
+    expect_windows(date, LENT(at_end), later_end);
+    expect_windows(date, LENT(at_dice), later_dice);
+    report("windows and minutes");
+}
+
 /* Fills or looks for what a refused call must leave. */
 static void fill_buffers(void) {
     memset(one, 0xA5, sizeof one), memset(two, 0xA5, sizeof two), memset(three, 0xA5, sizeof three), memset(joined, 0xA5, sizeof joined);
@@ -729,6 +816,9 @@ int main(void) {
     permute_zeros();
     refuse_runoffs();
     run_off();
+    refuse_days();
+    refuse_holidays();
+    set_calendars();
     try_form(0, 0);
     try_form(1, NUMBER);
     compare_forms();

@@ -1,7 +1,7 @@
-/* Shows that each call keeps to its bound of include/paddockyear.h, with as many ballots and lists as there may be: by what it touches of a
- * painted stack, and by a run on a thread that has so much stack and no more. Those that write or read a record do so in both forms. The
- * figures go to standard error; a call that touches more is printed as such, which makes the output another than due, and a thread that
- * needs more ends the program by a signal. */
+/* Shows that each call keeps to its bound of include/paddockyear.h, with as many ballots, lists and holidays as there may be: by what it
+ * touches of a painted stack, and by a run on a thread that has so much stack and no more. Those that write or read a record do so in both
+ * forms. The figures go to standard error; a call that touches more is printed as such, which makes the output another than due, and a
+ * thread that needs more ends the program by a signal. */
 
 #include "paddockyear.h"
 #include "support.h"
@@ -14,6 +14,7 @@
 #include <unistd.h>
 
 enum { MODULUS = 1000003, BALLOTS = PADDOCKYEAR_MOST_BALLOTS, COMPARED = PADDOCKYEAR_MOST_COMPARED, KIB = 1024 };
+enum { DAYS = 73049 }; /* from 2000 to 2199 */
 
 #define LENGTH(array) (sizeof(array) / sizeof((array)[0]))
 #define LENT(array) (array), LENGTH(array)
@@ -35,6 +36,8 @@ static uint64_t counts[BALLOTS];
 static uint64_t lanes[25], place, pairs, blank, spoiled;
 static uint32_t winner;
 static struct paddockyear_candidate table[PADDOCKYEAR_MOST_CANDIDATES];
+static uint32_t holidays[DAYS], window;
+static struct paddockyear_windows windows;
 
 static void keccak_f(void) { paddockyear_keccak_f(lanes), answer = 0; }
 static void sha3_224(void) { paddockyear_sha3_224(LENT(keys), digest), answer = 0; }
@@ -69,6 +72,8 @@ static void tally(void) { answer = paddockyear_tally(LENT(out), LENT(values), LE
 static void runoff(void) {
     answer = paddockyear_runoff(LENT(votes), PADDOCKYEAR_MOST_CANDIDATES, LENT(table), &winner, &blank, &spoiled);
 }
+static void calendar(void) { answer = paddockyear_calendar(2000, 1, 1, LENT(holidays), &windows); }
+static void window_at(void) { answer = paddockyear_window_at(2000, 1, 1, LENT(holidays), 0, &window); }
 
 struct row {
     const char *name;
@@ -108,6 +113,8 @@ static const struct row without_record[] = {
     ROW(split, PADDOCKYEAR_STACK),
     ROW(tally, PADDOCKYEAR_STACK),
     ROW(runoff, PADDOCKYEAR_STACK),
+    ROW(calendar, PADDOCKYEAR_STACK),
+    ROW(window_at, PADDOCKYEAR_STACK),
 };
 
 /* With less than they need, which shows that a thread has no more than it is given. */
@@ -122,11 +129,23 @@ static void fill_keys(void) {
     }
 }
 
+/* Every day that exists. A calendar of a day by itself says whether it does. */
+static void fill_holidays(void) {
+    size_t count = 0;
+    for (uint32_t date = 20000101; date <= 21991231; date++)
+        if (paddockyear_calendar(date / 10000, date / 100 % 100, date % 100, NULL, 0, &windows) == 0) {
+            demand(count < DAYS, "too many days");
+            holidays[count++] = date;
+        }
+    demand(count == DAYS, "too few days");
+}
+
 static void fill(void) {
     for (size_t i = 0; i < BALLOTS; i++) ids[i] = (uint32_t)i, votes[i] = (uint32_t)i % 7;
     for (size_t i = 0; i < LENGTH(numbers); i++) numbers[i] = (uint32_t)(i * i) % MODULUS;
     for (size_t i = 0; i < LENGTH(permutations); i++) permutations[i] = (uint16_t)((5 * i + i / BALLOTS) % BALLOTS);
     fill_keys();
+    fill_holidays();
     for (size_t i = 0; i < LENGTH(dice); i++) dice[i] = (uint8_t)('1' + i % 6);
 }
 

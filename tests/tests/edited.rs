@@ -1,15 +1,17 @@
 //! Calls of public functions as no face makes them, so that their edits are tried on these too, and
 //! short ones of the runoff; with the feature `edited`. Programs alone call `put_result`,
-//! `put_election`, `put_refused` and `put_lines`.
+//! `put_election`, `put_refused`, `put_lines` and the calendar's `put_page`.
 
 use paddockyear_tests::boards::copies::{ballots_alone, commitments};
 use paddockyear_tests::boards::samples::files;
 use paddockyear_tests::boards::{honest, inputs, BOTH};
 use paddockyear_tests::edited::protocol::{Form, Receipt, Verdict};
 use paddockyear_tests::edited::runoff as edited_runoff;
+use paddockyear_tests::edited::schedule as edited_schedule;
 use paddockyear_tests::edited::wire::Order;
 use paddockyear_tests::edited::{limits, results, verifier, wire};
 use paddockyear_tests::random::Random;
+use paddockyear_tests::reference::page::calendar_page;
 use paddockyear_tests::reference::runoff::Candidate;
 use paddockyear_tests::reference::tablet::receipt;
 use paddockyear_tests::reference::terms::{self, Parameters, MAX_BALLOTS};
@@ -93,6 +95,28 @@ fn lines_of_the_runoff() {
     assert_eq!(lines(&votes, 4), due);
     let due = "ROUND\t#1\tLEAVES\n1\t0\t-\nWINNER\tNONE\nBLANK\t1\nSPOILED\t2\n";
     assert_eq!(lines(&[0, 2, 11], 1), due);
+}
+
+/// Windows on the first and the last day of a month and of a year, in the first and behind the last
+/// year, and what is refused.
+#[test]
+fn pages_of_the_calendar() {
+    for dates in [
+        ["2000-01-01", "2000-01-03"],
+        ["2026-03-31", "2026-04-17"],
+        ["2026-12-30", "2027-01-01"],
+        ["2026-11-27", "2026-11-30"],
+        ["2028-02-28", "2028-02-29"],
+        ["2199-12-31", "2199-12-31"],
+        ["2026-02-29", "2026-03-01"],
+    ] {
+        let numbers = dates.map(|date| date.replace('-', "").parse().unwrap());
+        let election = edited_schedule::dates::date_in(numbers[0]);
+        let mut out = [7u8; 216];
+        let end = edited_schedule::page::put_page(election, &numbers[1..], &mut out);
+        assert_eq!(String::from_utf8_lossy(&out[..end]), calendar_page(&dates).unwrap());
+        assert!(out[end..].iter().all(|byte| *byte == 7));
+    }
 }
 
 /// Records that end with their first command, or a byte before.

@@ -12,10 +12,15 @@ use Rattle.protocol.specs.Terms.{item, formBy}
 use Rattle.election.specs.declared.Outcome.{Outcome}
 use Rattle.election.specs.declared.Outcome.the-variants as outcome
 use Rattle.election.specs.Holding.{outcomeAnswer}
+use Rattle.schedule.specs.declared.Date.{Date}
 
 -- the first command's form, by a flag, 0 for command 01 and any other number for 0C, and the election's number
 abbrev pub formTold : ℕ → ℕ → Form
 formTold numbered election = formBy (differ numbered 0) election
+
+-- a date by its three numbers, whether or not it exists
+abbrev pub dateTold : ℕ → ℕ → ℕ → Date
+dateTold year month day = record { year = year; month = month; day = day }
 
 -- 0 where nothing is refused, else the refusal's number
 unfoldable pub codeOf : Answer → ℕ
@@ -70,6 +75,18 @@ pub done-one : (number value x y : ℕ) → done (x ∷ []) ≡ answerOf number 
 unfolding answerOf choose
 done-one zero value x y e = (refl, cc)
 done-one (suc n) value x y e = absurd (let z : _≡_ {A = ℕ} 0 1 = cc in omega arith)
+
+-- an answer with as many values as a lent array has places, which holds y before
+pub refused-all : (number : ℕ) (values : List ℕ) (k : ℕ) (y : List ℕ) → refused k ≡ answerOf number values
+    → (k ≡ number) × (y ≡ choose number values y)
+unfolding answerOf choose
+refused-all zero values k y e = absurd (let z : _≡_ {A = ℕ} 0 1 = cc in omega arith)
+refused-all (suc n) values k y e = (cc, refl)
+
+pub done-all : (number : ℕ) (values x y : List ℕ) → done x ≡ answerOf number values → (0 ≡ number) × (x ≡ choose number values y)
+unfolding answerOf choose
+done-all zero values x y e = (refl, cc)
+done-all (suc n) values x y e = absurd (let z : _≡_ {A = ℕ} 0 1 = cc in omega arith)
 
 -- an election's answer is that of its code: a record that is written is accepted
 pub outcome-answer : (number : ℕ) (values : List ℕ) (o : Outcome) {r : ℕ} → outcomeAnswer o ≡ answerOf number values

@@ -22,7 +22,8 @@ ghost use Rattle.protocol.specs.Election.{choiceOf};
 ghost use Rattle.election.specs.Holding.{lent, buffers, Held};
 ghost use Rattle.protocol.specs.Results.{receiptChecked, lookedUp, announcedVotes, announcedRefusal, distinctVotes, voteCounts, tallyRefusal, inFront, drawRefusal};
 ghost use Rattle.runoff.specs.Rounds as rounds;
-ghost use Rattle.paddockyear.specs.Codes.{formTold, codeOf, valueIn, receiptCode, placeIn, outcomeCode};
+ghost use Rattle.schedule.specs.Windows as calendar;
+ghost use Rattle.paddockyear.specs.Codes.{formTold, dateTold, codeOf, valueIn, receiptCode, placeIn, outcomeCode};
 use election::Outcome;
 use laws::Found;
 use protocol::Draw;
@@ -32,6 +33,10 @@ use protocol::Tally;
 use protocol::Written;
 use runoff::Candidate;
 use runoff::Runoff;
+use schedule::Date;
+use schedule::Minute;
+use schedule::Schedule;
+use schedule::Windows;
 
 // Keccak-f[1600], in place.
 #[no_mangle]
@@ -640,4 +645,81 @@ pub extern "C" fn paddockyear_runoff(
 {
     let r = runoff::run_off(votes, candidates as usize, table);
     runoff_code(r, winner, blank, spoiled)
+}
+
+// ---- calendar
+
+// The windows as the eight numbers that C has of them.
+fn numbers_of(w: Windows) -> [u64; 8]
+    ensures { λ r. ⌜ r ≡ calendar.numbers w ⌝ }
+{
+    [
+        w.polling.start,
+        w.polling.end,
+        w.first.start,
+        w.first.end,
+        w.second.start,
+        w.second.end,
+        w.objections.start,
+        w.objections.end,
+    ]
+}
+
+// The four windows of an election; on a refusal `windows` is as it was.
+#[no_mangle]
+pub extern "C" fn paddockyear_calendar(
+    year: u32,
+    month: u32,
+    day: u32,
+    holidays: &[u32],
+    windows: &mut [u64; 8],
+) -> u32
+    ensures { λ r.
+        let election = dateTold year month day in
+        let k = calendar.scheduleRefusal election (before holidays) in
+        let numbers = calendar.numbers (calendar.windows election (before holidays)) in
+        ⌜ (r ≡ k) × (after windows ≡ choose k numbers (before windows)) ⌝ }
+{
+    let election = Date {
+        year: year,
+        month: month,
+        day: day,
+    };
+    match schedule::four_windows(election, holidays) {
+        Schedule::Refused(k) => k,
+        Schedule::Set(w) => {
+            *windows = numbers_of(w);
+            0
+        }
+    }
+}
+
+// The window of an election that a minute is in, 0 for none; on a refusal `window` is as it was.
+#[no_mangle]
+pub extern "C" fn paddockyear_window_at(
+    year: u32,
+    month: u32,
+    day: u32,
+    holidays: &[u32],
+    minute: u64,
+    window: &mut u32,
+) -> u32
+    ensures { λ r.
+        let election = dateTold year month day in
+        let k = calendar.scheduleRefusal election (before holidays) in
+        let number = calendar.windowOf (calendar.windows election (before holidays)) minute in
+        ⌜ (r ≡ k) × (now (window .exit) ≡ choose k number (now (window .entry))) ⌝ }
+{
+    let election = Date {
+        year: year,
+        month: month,
+        day: day,
+    };
+    match schedule::window_at(election, holidays, minute) {
+        Minute::Refused(k) => k,
+        Minute::Window(number) => {
+            *window = number;
+            0
+        }
+    }
 }
