@@ -9,14 +9,15 @@ use paddockyear_tests::edited::protocol::{Form, Receipt, Verdict};
 use paddockyear_tests::edited::runoff as edited_runoff;
 use paddockyear_tests::edited::schedule as edited_schedule;
 use paddockyear_tests::edited::wire::Order;
-use paddockyear_tests::edited::{limits, results, verifier, wire};
+use paddockyear_tests::edited::{decimals, limits, results, verifier, wire};
 use paddockyear_tests::random::Random;
+use paddockyear_tests::reference::calendar::Date;
 use paddockyear_tests::reference::page::calendar_page;
 use paddockyear_tests::reference::runoff::Candidate;
 use paddockyear_tests::reference::tablet::receipt;
 use paddockyear_tests::reference::terms::{self, Parameters, MAX_BALLOTS};
 use paddockyear_tests::reference::writer::SidesSource;
-use paddockyear_tests::subjects::product::{part_three, runoff};
+use paddockyear_tests::subjects::product::{calendar, part_three, runoff, window_at};
 
 #[test]
 fn slices_of_two_lengths() {
@@ -75,7 +76,7 @@ fn line_of_an_election() {
 fn page_of_a_refusal() {
     for number in [1, 17, 20] {
         let mut out = vec![0u8; 19];
-        let end = results::page::put_refused(number, &mut out);
+        let end = decimals::put_refused(number, &mut out);
         assert_eq!(String::from_utf8_lossy(&out[..end]), format!("REFUSED {number}\n"));
     }
 }
@@ -103,7 +104,8 @@ fn lines_of_the_runoff() {
 fn pages_of_the_calendar() {
     for dates in [
         ["2000-01-01", "2000-01-03"],
-        ["2026-03-31", "2026-04-17"],
+        ["2025-12-30", "2026-01-02"],
+        ["2026-03-30", "2026-04-16"],
         ["2026-12-30", "2027-01-01"],
         ["2026-11-27", "2026-11-30"],
         ["2028-02-28", "2028-02-29"],
@@ -116,6 +118,22 @@ fn pages_of_the_calendar() {
         let end = edited_schedule::page::put_page(election, &numbers[1..], &mut out);
         assert_eq!(String::from_utf8_lossy(&out[..end]), calendar_page(&dates).unwrap());
         assert!(out[end..].iter().all(|byte| *byte == 7));
+    }
+}
+
+/// Days that are no days, and holidays that do not rise: the suite's many days take up the work that
+/// an edit is tried for.
+#[test]
+fn refused_days() {
+    let on = Date::new(2026, 11, 17);
+    for (election, holidays) in [
+        (Date::new(2026, 2, 29), vec![]),
+        (on, vec![20260151]),
+        (on, vec![20260101, 20260101]),
+        (on, vec![20260102, 20260102]),
+    ] {
+        assert_eq!(calendar(election, &holidays), Err(22));
+        assert_eq!(window_at(election, &holidays, 0), Err(22));
     }
 }
 

@@ -9,10 +9,6 @@ use Rattle.protocol.specs.Results.{announcedVotes}
 use Rattle.results.specs.Ready.{VotesReady}
 use Rattle.results.specs.Tallies.{TallyReady}
 
--- the page of a record that is refused: the word, at most ten digits and the line's end
-abbrev pub refusedMost : ℕ
-refusedMost = 19
-
 -- the line of an election's number: the word, at most ten digits and the line's end
 abbrev pub electionMost : ℕ
 electionMost = 20

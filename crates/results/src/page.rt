@@ -1,4 +1,4 @@
-// The page of a record: of one that is refused, the line of an election's number, and the lines of a tally.
+// The page of a record: the line of an election's number, and the lines of a tally.
 ghost use mathlib.Core.Bool.{true};
 ghost use mathlib.Core.List.{[], _∷_, _++_};
 ghost use mathlib.Core.Path.{_≡_};
@@ -9,24 +9,14 @@ ghost use Rattle.laws.specs.Lent.{before, after};
 ghost use Rattle.laws.specs.Writing.{Went};
 ghost use Rattle.protocol.specs.Terms.{item, mostBallots, decimal};
 ghost use Rattle.protocol.specs.Judging.{firstFault};
-ghost use Rattle.protocol.specs.Results.{announcedVotes, refusedWord, electionLine, tallyLine, tallyLines};
-ghost use Rattle.results.specs.Pages.{refusedMost, electionMost, lineMost, LinesReady, LinesRoom, AnnouncedRoom};
+ghost use Rattle.protocol.specs.Results.{announcedVotes, electionLine, tallyLine, tallyLines};
+ghost use Rattle.results.specs.Pages.{electionMost, lineMost, LinesReady, LinesRoom, AnnouncedRoom};
 use crate::tally::fill;
 use crate::votes::read_votes;
 use laws::Found;
 use protocol::Form;
 use protocol::MOST_BALLOTS;
 use protocol::Parameters;
-
-// Writes the page of a record that breaks a rule, and answers its length.
-pub fn put_refused(number: u32, out: &mut [u8]) -> usize
-    requires { ⌜ refusedMost ≤ length (now out) ⌝ }
-    ensures { λ r. ⌜ Went (before out) 0 (refusedWord ++ (decimal number ++ (10 ∷ []))) (after out) r ⌝ }
-{
-    let at = wire::copy(out, 0, b"REFUSED ");
-    let end = decimals::put_decimal(out, at, number);
-    wire::copy(out, end, b"\n")
-}
 
 // Writes the line of the election's number, in the form that has one, from a place on, and answers the next place.
 pub fn put_election(form: Form, out: &mut [u8], at: usize) -> usize

@@ -6,7 +6,7 @@ pub mod Dating
 pub mod Counting
 pub mod Planning
 mod Passing
-mod Answering
+pub mod Answering
 mod Located
 pub mod Corresponding
 pub mod Ordered

@@ -1,12 +1,10 @@
 // The page of the calendar: a line for each window, or for the refusal.
-ghost use mathlib.Core.List.{[], _∷_, _++_};
 ghost use mathlib.Core.Path.{_≡_};
 ghost use Prim.Native.Nat.{_+_, _*_, _≤_, _<_};
 ghost use lib.ListN.{length, take, drop};
 ghost use Rattle.laws.specs.Lent.{before, after};
 ghost use Rattle.laws.specs.Writing.{Went};
-ghost use Rattle.protocol.specs.Terms.{decimal};
-ghost use Rattle.protocol.specs.Results.{refusedWord, inFront};
+ghost use Rattle.protocol.specs.Results.{inFront};
 ghost use Rattle.schedule.specs.Working.{weekday};
 ghost use Rattle.schedule.specs.Page as definitions;
 ghost use Rattle.schedule.specs.Told.{momentMost, pageMost, SmallWindows, NameReady, EndReady, LineReady};
@@ -120,16 +118,6 @@ fn put_windows(out: &mut [u8], w: Windows) -> usize
     put_window(out, second, b"OBJECTIONS\t", w.objections)
 }
 
-// Writes the line of a refusal from the start on, and answers its length.
-fn put_refused(out: &mut [u8], number: u32) -> usize
-    requires { ⌜ pageMost ≤ length (now out) ⌝ }
-    ensures { λ r. ⌜ Went (before out) 0 (refusedWord ++ (decimal number ++ (10 ∷ []))) (after out) r ⌝ }
-{
-    let at = wire::copy(out, 0, b"REFUSED ");
-    let end = decimals::put_decimal(out, at, number);
-    wire::copy(out, end, b"\n")
-}
-
 // Writes the page of the calendar, and answers its length. What lies behind it is unchanged.
 pub fn put_page(election: Date, holidays: &[u32], out: &mut [u8; LONGEST_PAGE]) -> usize
     ensures output { λ _. ⌜ after out ≡ inFront (definitions.schedulePage election (before holidays)) (before out) ⌝ }
@@ -137,6 +125,6 @@ pub fn put_page(election: Date, holidays: &[u32], out: &mut [u8; LONGEST_PAGE]) 
 {
     match four_windows(election, holidays) {
         Schedule::Set(w) => put_windows(out, w),
-        Schedule::Refused(k) => put_refused(out, k),
+        Schedule::Refused(k) => decimals::put_refused(k, out),
     }
 }

@@ -47,7 +47,7 @@ pub fn put_page(bytes: &[u8], out: &mut [u8; LONGEST_PAGE]) -> usize
     }
     match verifier::first_fault(bytes, true) {
         Found::Nothing => put_accepted(bytes, out),
-        Found::Fault(number, _) => results::page::put_refused(number, out),
+        Found::Fault(number, _) => decimals::put_refused(number, out),
     }
 }
 

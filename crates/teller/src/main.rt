@@ -61,7 +61,7 @@ fn put_counted(bytes: &[u8], candidates: usize, out: &mut [u8]) -> usize
 {
     let k = runoff::refuse(candidates, candidates);
     if k != 0 {
-        return results::page::put_refused(k, out);
+        return decimals::put_refused(k, out);
     }
     let p = layout::parameters(bytes);
     let n = p.ballots;
@@ -79,7 +79,7 @@ pub fn put_page(bytes: &[u8], candidates: usize, out: &mut [u8; LONGEST_PAGE]) -
     }
     match verifier::first_fault(bytes, true) {
         Found::Nothing => put_counted(bytes, candidates, out),
-        Found::Fault(number, _) => results::page::put_refused(number, out),
+        Found::Fault(number, _) => decimals::put_refused(number, out),
     }
 }
 

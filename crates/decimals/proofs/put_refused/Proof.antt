@@ -1,10 +1,10 @@
--- `results::page::put_refused` meets its contract: the word, the number and the line's end, one behind the other.
+-- `decimals::put_refused` meets its contract: the word, the number and the line's end, one behind the other.
 use native.Mathlib.Omega.{arith}
 use borrow.Author.Needs.{needs}
 use Rattle.laws.specs.Writing.{go-on}
 use Rattle.decimals.proofs.Digits.{decimal-length}
-use Rattle.results.proofs.page.put_refused.Statement.{statement}
-use Rattle.results.proofs.page.put_refused.Tie as tie
+use Rattle.decimals.proofs.put_refused.Statement.{statement}
+use Rattle.decimals.proofs.put_refused.Tie as tie
 
 put-decimal-requires : tie.Need-put-decimal-requires
 put-decimal-requires c κs =
