@@ -2,13 +2,13 @@
 use mathlib.Core.Path.{_≡_, refl, sym, ap, ap₂, _∙_}
 use mathlib.Core.Logic.{_↔_, _⊎_, inl, inr}
 use mathlib.Core.Bool.{Bool, true, false}
-use Prim.Native.Nat.{ℕ, suc, _+_, _-_, _≤_, _<_}
+use Prim.Native.Nat.{ℕ, suc, _+_, _-_, _*_, _/_, _%_, _≤_, _<_}
 use native.Mathlib.Decide.{ℕ-discrete, decLt}
 use native.Mathlib.Omega.{arith}
 use Rattle.laws.specs.Tests.{atMost, _and_, every, atMost-iff, and-iff, every-iff}
 use Rattle.laws.specs.Sums.{sum}
 use Rattle.protocol.specs.Terms.{item}
-use Rattle.schedule.specs.Dates.{leap, months, daysOfMonth, daysOfMonths, daysOfYear, daysOfYears, dated, exists, dayNumber, numberOf}
+use Rattle.schedule.specs.Dates.{leap, months, daysOfMonth, daysOfMonths, daysOfYear, daysOfYears, dated, exists, dayNumber, dateIn, numberOf}
 use Rattle.schedule.specs.declared.Date.{Date}
 use Rattle.schedule.proofs.Prefixes.{sum-up, sum-part}
 use Rattle.schedule.proofs.Lengths.{years-days}
@@ -161,6 +161,16 @@ module _ (a b : Date) (v : Dated a) (w : Dated b) where
       let from : a ≡ date (a .year) (a .month) (a .day) = refl in
       let same : date (a .year) (a .month) (a .day) ≡ date (b .year) (b .month) (b .day) = cc in
       from ∙ same
+
+-- a date's number says that date
+pub number-says : (t : Date) → Dated t → dateIn (numberOf t) ≡ t
+unfolding numberOf dateIn
+number-says t v =
+    let few = day-most t v in
+    let year : (t .year * 10000 + (t .month * 100 + t .day)) / 10000 ≡ t .year = omega (arith, v .last) in
+    let month : (t .year * 10000 + (t .month * 100 + t .day)) / 100 % 100 ≡ t .month = omega (arith, v .last) in
+    let day : (t .year * 10000 + (t .month * 100 + t .day)) % 100 ≡ t .day = omega arith in
+    rw (year, month, day)
 
 -- "rise together"
 pub rise-together : (a b : Date) → Dated a → Dated b → (numberOf a < numberOf b) ↔ (dayNumber a < dayNumber b)
