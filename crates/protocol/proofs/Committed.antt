@@ -7,9 +7,8 @@ use native.Mathlib.Decide.{ℕ-discrete}
 use native.Mathlib.Omega.{arith}
 use Rattle.laws.specs.Tests.{equal, pick, is-equal, not-equal}
 use Rattle.laws.specs.Modular.{both-sides}
-use Rattle.protocol.specs.declared.Parameters.{Parameters}
 use Rattle.protocol.specs.declared.Place.{Place}
-use Rattle.protocol.specs.Terms.{opened, commitment}
+use Rattle.protocol.specs.Terms.{opened, Scheme}
 use Rattle.protocol.specs.Record.{Disclosure}
 
 -- the numbers in three openings, and in six, summed
@@ -41,13 +40,13 @@ module _ (d e : Disclosure) (j : ℕ) where
   both-other c l ne = off-side (2 * c + e .side j) c (λ h. ne (omega arith)) (omega arith)
 
   -- they give the six commitments, if each side's three do
-  pub both-give : (p : Parameters) (at : ℕ → Place) (posted : ℕ → List ℕ) → d .side j ≤ 1 → e .side j ≤ 1 → d .side j ≢ e .side j
-      → ((c : ℕ) → c < 3 → commitment p (at (2 * c + d .side j)) (d .ballotOpening j c) ≡ posted (2 * c + d .side j))
-      → ((c : ℕ) → c < 3 → commitment p (at (2 * c + e .side j)) (e .ballotOpening j c) ≡ posted (2 * c + e .side j))
-      → (q : ℕ) → q < 6 → commitment p (at q) (both d e j q) ≡ posted q
-  both-give p at posted ld le ne hd he q lq = go (ℕ-discrete (q % 2) (d .side j))
+  pub both-give : (commit : Scheme) (at : ℕ → Place) (posted : ℕ → List ℕ) → d .side j ≤ 1 → e .side j ≤ 1 → d .side j ≢ e .side j
+      → ((c : ℕ) → c < 3 → commit (at (2 * c + d .side j)) (d .ballotOpening j c) ≡ posted (2 * c + d .side j))
+      → ((c : ℕ) → c < 3 → commit (at (2 * c + e .side j)) (e .ballotOpening j c) ≡ posted (2 * c + e .side j))
+      → (q : ℕ) → q < 6 → commit (at q) (both d e j q) ≡ posted q
+  both-give commit at posted ld le ne hd he q lq = go (ℕ-discrete (q % 2) (d .side j))
     where
-      go : Dec (q % 2 ≡ d .side j) → commitment p (at q) (both d e j q) ≡ posted q
+      go : Dec (q % 2 ≡ d .side j) → commit (at q) (both d e j q) ≡ posted q
       go (yes s) =
           let w : 2 * (q / 2) + d .side j ≡ q = omega arith in
           rw (on-side q (q / 2) s refl) (rw w at (hd (q / 2) (omega arith)))

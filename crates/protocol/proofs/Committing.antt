@@ -42,7 +42,7 @@ module _ (b : Board) (k k₃ : Comparison) (d₁ d₂ d₃ : Disclosure) (f₁ :
   announces-them : Announces (encoding b k d₁) (encoding b k d₂) (encoding b k₃ d₃)
   announces-them = record {
     committed = vote;
-    commits = rw (read-parameters b k d₁ f₁) commits-at;
+    commits = λ j lj. commits-at j (rw (read-parameters b k d₁ f₁) at lj);
     as-often = λ x. rw (read-parameters b k d₁ f₁, read-parameters b k₃ d₃ f₃) (times-same x (b .parameters .ballots) (read-vote b k₃ d₃ f₃) ∙ often x);
   }
 

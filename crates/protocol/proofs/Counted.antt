@@ -11,9 +11,10 @@ use Rattle.laws.specs.Masks.{bit, Only, only, below-bits, setBefore, set-ones, 
 use Rattle.laws.specs.Permutations.{times-perm}
 use Rattle.laws.specs.Search.{all-or, _>>=_}
 use Rattle.laws.specs.Sums.{times, times-same}
+use Rattle.protocol.specs.Terms.{Scheme}
 use Rattle.protocol.specs.Layout.{lists}
 use Rattle.protocol.specs.Record.{Board, Comparison, Disclosure}
-use Rattle.protocol.specs.Stands.{Valid}
+use Rattle.protocol.specs.Stands.{ValidOver}
 use Rattle.protocol.proofs.Committed.{six, both, both-one, both-other, Half, total}
 
 -- ---- the mask
@@ -22,13 +23,13 @@ lt-pow : (x : ℕ) → x < 2 ^ x
 lt-pow zero = omega arith
 lt-pow (suc x) = omega (arith, lt-pow x)
 
-pub mask-below : {b : Board} {k : Comparison} {d : Disclosure} → Valid b k d → k .mask < 2 ^ lists (b .parameters)
-mask-below {b} {k} v = below-bits (k .mask) (lists (b .parameters)) (k .mask) (lt-pow (k .mask)) (v .mask-bits)
+pub mask-below : {commit : Scheme} {b : Board} {k : Comparison} {d : Disclosure} → ValidOver commit b k d → k .mask < 2 ^ lists (b .parameters)
+mask-below {commit} {b} {k} v = below-bits (k .mask) (lists (b .parameters)) (k .mask) (lt-pow (k .mask)) (v .mask-bits)
 
 -- fewer than m compared lists come before a compared list
-pub rank-below : {b : Board} {k : Comparison} {d : Disclosure} → Valid b k d → (l : ℕ) → l < lists (b .parameters) → bit (k .mask) l ≡ 1
+pub rank-below : {commit : Scheme} {b : Board} {k : Comparison} {d : Disclosure} → ValidOver commit b k d → (l : ℕ) → l < lists (b .parameters) → bit (k .mask) l ≡ 1
     → setBefore (k .mask) l < b .parameters .compared
-rank-below {b} {k} v l ll set =
+rank-below {commit} {b} {k} v l ll set =
     let m : ℕ = lists (b .parameters) in
     let low : setBefore (k .mask) l < setBefore (k .mask) m = set-lt m (k .mask) l ll set in
     let all : setBefore (k .mask) m ≡ b .parameters .compared = set-ones m (k .mask) (mask-below v) ∙ v .mask-ones in
@@ -74,9 +75,9 @@ module _ {E : Type 0} (b : Board) (k : Comparison) (d : Disclosure) (k₃ : Comp
 abbrev value : Board → Disclosure → ℕ → ℕ → ℕ
 value b d₃ l i = six (d₃ .fullOpening l i) % b .parameters .modulus
 
-module _ (b : Board) (k : Comparison) (d₃ : Disclosure) (l : ℕ) (ll : l < lists (b .parameters)) (set : bit (k .mask) l ≡ 1) where
+module _ {commit : Scheme} (b : Board) (k : Comparison) (d₃ : Disclosure) (l : ℕ) (ll : l < lists (b .parameters)) (set : bit (k .mask) l ≡ 1) where
   -- the six openings o of ballot j, side 0 shown by d and side 1 by e
-  ballot : (d e : Disclosure) → Valid b k d → Valid b k e → (o : ℕ → List ℕ) (j : ℕ) → j < b .parameters .ballots → d .side j ≡ 0 → e .side j ≡ 1
+  ballot : (d e : Disclosure) → ValidOver commit b k d → ValidOver commit b k e → (o : ℕ → List ℕ) (j : ℕ) → j < b .parameters .ballots → d .side j ≡ 0 → e .side j ≡ 1
       → Half o (d .side j) (d .ballotOpening j) → Half o (e .side j) (e .ballotOpening j)
       → Alike b k d d₃ l → Alike b k e d₃ l → value b d₃ l (k .position l j) ≡ six o % b .parameters .modulus
   ballot d e v w o j lj sd se hd he ad ae =
@@ -85,7 +86,7 @@ module _ (b : Board) (k : Comparison) (d₃ : Disclosure) (l : ℕ) (ll : l < li
       (v .first-halves-agree l j ll set lj sd) (w .second-halves-agree l j ll set lj se))
 
   -- on whichever side d shows it
-  either : (d e : Disclosure) → Valid b k d → Valid b k e → (o : ℕ → List ℕ) (j : ℕ) → j < b .parameters .ballots → d .side j ≢ e .side j
+  either : (d e : Disclosure) → ValidOver commit b k d → ValidOver commit b k e → (o : ℕ → List ℕ) (j : ℕ) → j < b .parameters .ballots → d .side j ≢ e .side j
       → Half o (d .side j) (d .ballotOpening j) → Half o (e .side j) (e .ballotOpening j)
       → Alike b k d d₃ l → Alike b k e d₃ l → value b d₃ l (k .position l j) ≡ six o % b .parameters .modulus
   either d e v w o j lj ne hd he ad ae = go (v .sides j lj) (w .sides j lj) (ℕ-discrete (d .side j) 0)
@@ -98,8 +99,8 @@ module _ (b : Board) (k : Comparison) (d₃ : Disclosure) (l : ℕ) (ll : l < li
 abbrev pub vote : Board → Disclosure → Disclosure → ℕ → ℕ
 vote b d e j = six (both d e j) % b .parameters .modulus
 
-module _ (b : Board) (k : Comparison) (d e : Disclosure) (k₃ : Comparison) (d₃ : Disclosure) (v : Valid b k d) (w : Valid b k e) (z : Valid b k₃ d₃)
-    (sides : (j : ℕ) → j < b .parameters .ballots → d .side j ≢ e .side j) where
+module _ {commit : Scheme} (b : Board) (k : Comparison) (d e : Disclosure) (k₃ : Comparison) (d₃ : Disclosure) (v : ValidOver commit b k d) (w : ValidOver commit b k e)
+    (z : ValidOver commit b k₃ d₃) (sides : (j : ℕ) → j < b .parameters .ballots → d .side j ≢ e .side j) where
   counts : (l : ℕ) → l < lists (b .parameters) → bit (k .mask) l ≡ 1 → bit (k₃ .mask) l ≡ 0 → Alike b k d d₃ l → Alike b k e d₃ l
       → (x : ℕ) → times x (d₃ .vote) (b .parameters .ballots) ≡ times x (vote b d e) (b .parameters .ballots)
   counts l ll set clear ad ae x =

@@ -1,4 +1,5 @@
--- Three records that are proofs: the third announces what the ballots commit, or a commitment is opened in two ways.
+-- Three records that are proofs over any commitment scheme: the third announces what the ballots commit, or a commitment is opened in two
+-- ways.
 use mathlib.Core.Path.{_≡_, refl, sym, ap, subst, _∙_}
 use mathlib.Core.Logic.{_⊎_, inl, inr, _≢_}
 use mathlib.Core.List.{List}
@@ -9,10 +10,11 @@ use Rattle.laws.specs.Sums.{times}
 use Rattle.protocol.specs.declared.Parameters.{Parameters}
 use Rattle.protocol.specs.declared.Place.{Place}
 use Rattle.protocol.specs.declared.Place.the-variants.{InBallot, InEntry}
+use Rattle.protocol.specs.Terms.{Scheme}
 use Rattle.protocol.specs.Layout.{lists, atFirstDice, atSecondDice}
 use Rattle.protocol.specs.Record.{Board, Comparison, Disclosure, parametersOf, idOf, ballotCommitmentOf, entryCommitmentOf, firstDiceOf, maskOf, positionOf, shiftOf, secondDiceOf, sideOf, ballotOpeningOf, listOpeningOf, voteOf, fullOpeningOf}
-use Rattle.protocol.specs.Stands.{Valid, Stands}
-use Rattle.protocol.specs.Demand3.{beforeFirstDice, beforeSecondDice, Commits, Posted, by-entry, Shown, in-list-half, in-full-opening, OpenedTwice, Announces}
+use Rattle.protocol.specs.Stands.{ValidOver, StandsOver}
+use Rattle.protocol.specs.Demand3.{beforeFirstDice, beforeSecondDice, CommitsOver, Posted, by-entry, Shown, in-list-half, in-full-opening, OpenedTwiceOver, AnnouncesOver}
 use Rattle.protocol.proofs.Alike.{parameters-alike, id-alike, ballot-alike, entry-alike, dice-alike, mask-alike, position-alike, shift-alike}
 use Rattle.protocol.proofs.Transport.{slot-in, boardWith, board-moved, comparisonWith, comparison-moved}
 use Rattle.protocol.proofs.Committed.{both, both-one, both-other, both-give}
@@ -38,21 +40,21 @@ disclosureAt p r =
     }
 
 -- a proof, over the board of a record with the same bytes before the first dice
-over-board : (p : Parameters) (r s : List ℕ) → parametersOf s ≡ p → take (atFirstDice p) s ≡ take (atFirstDice p) r → Stands s
-    → Valid (boardAt p r) (comparisonAt p s) (disclosureAt p s)
-over-board p r s e alike h =
+over-board : {commit : Scheme} (p : Parameters) (r s : List ℕ) → parametersOf s ≡ p → take (atFirstDice p) s ≡ take (atFirstDice p) r → StandsOver commit s
+    → ValidOver commit (boardAt p r) (comparisonAt p s) (disclosureAt p s)
+over-board {commit} p r s e alike h =
     board-moved p (idOf p s) (idOf p r) (ballotCommitmentOf p s) (ballotCommitmentOf p r) (entryCommitmentOf p s) (entryCommitmentOf p r) (comparisonAt p s) (disclosureAt p s)
     (id-alike p s r alike) (ballot-alike p s r alike) (entry-alike p s r alike)
-    (subst (λ (x : Parameters). Valid (boardAt x s) (comparisonAt x s) (disclosureAt x s)) e (h .valid))
+    (subst (λ (x : Parameters). ValidOver commit (boardAt x s) (comparisonAt x s) (disclosureAt x s)) e (h .valid))
 
 -- and over its comparison, with the same bytes before the second dice
-over-comparison : (p : Parameters) (r s : List ℕ) (d : Disclosure) → take (atSecondDice p) s ≡ take (atSecondDice p) r → Valid (boardAt p r) (comparisonAt p s) d
-    → Valid (boardAt p r) (comparisonAt p r) d
-over-comparison p r s d alike v =
+over-comparison : {commit : Scheme} (p : Parameters) (r s : List ℕ) (d : Disclosure) → take (atSecondDice p) s ≡ take (atSecondDice p) r → ValidOver commit (boardAt p r) (comparisonAt p s) d
+    → ValidOver commit (boardAt p r) (comparisonAt p r) d
+over-comparison {commit} p r s d alike v =
     comparison-moved (boardAt p r) (firstDiceOf p r) (maskOf p r) (positionOf p s) (positionOf p r) (shiftOf p s) (shiftOf p r) d
     (λ l j ll set lj. position-alike p s r alike l j (rank-below w l ll set) lj) (λ l j ll set lj. shift-alike p s r alike l j (rank-below w l ll set) lj) w
   where
-    w : Valid (boardAt p r) (comparisonWith (firstDiceOf p r) (maskOf p r) (positionOf p s) (shiftOf p s)) d
+    w : ValidOver commit (boardAt p r) (comparisonWith (firstDiceOf p r) (maskOf p r) (positionOf p s) (shiftOf p s)) d
     w = rw (dice-alike p s r alike, mask-alike p s r alike) at v
 
 -- ---- what is shown
@@ -75,11 +77,11 @@ module _ (p : Parameters) (r : List ℕ) (e : parametersOf r ≡ p) where
       subst (λ (x : Parameters). l < lists x → i < x .ballots → q < 6 → Posted r (InEntry l i q) (entryCommitmentOf x r l i q)) e (by-entry l i q)
 
 -- two openings that differ, shown by a record r of the pair and by the third
-clash-twice : (p : Parameters) (r₁ r₂ r₃ r : List ℕ) → parametersOf r₁ ≡ p → parametersOf r ≡ p → parametersOf r₃ ≡ p
+clash-twice : {commit : Scheme} (p : Parameters) (r₁ r₂ r₃ r : List ℕ) → parametersOf r₁ ≡ p → parametersOf r ≡ p → parametersOf r₃ ≡ p
     → take (atSecondDice p) r ≡ take (atSecondDice p) r₁
-    → Valid (boardAt p r₁) (comparisonAt p r₁) (disclosureAt p r) → Valid (boardAt p r₁) (comparisonAt p r₃) (disclosureAt p r₃)
+    → ValidOver commit (boardAt p r₁) (comparisonAt p r₁) (disclosureAt p r) → ValidOver commit (boardAt p r₁) (comparisonAt p r₃) (disclosureAt p r₃)
     → ((place : Place) (o : List ℕ) → Shown r place o → Shown r₁ place o ⊎ (Shown r₂ place o ⊎ Shown r₃ place o))
-    → Clash (boardAt p r₁) (comparisonAt p r₁) (disclosureAt p r) (comparisonAt p r₃) (disclosureAt p r₃) → OpenedTwice r₁ r₂ r₃
+    → Clash (boardAt p r₁) (comparisonAt p r₁) (disclosureAt p r) (comparisonAt p r₃) (disclosureAt p r₃) → OpenedTwiceOver commit r₁ r₂ r₃
 clash-twice p r₁ r₂ r₃ r e₁ e e₃ alike v v₃ shown t = record {
   place = InEntry l i q;
   posted = entryCommitmentOf p r₁ l i q;
@@ -87,8 +89,8 @@ clash-twice p r₁ r₂ r₃ r e₁ e e₃ alike v v₃ shown t = record {
   other = fullOpeningOf p r₃ l i q;
   is-posted = entry-posted p r₁ e₁ l i q (t .list-in) li lq;
   differ = t .differ;
-  one-gives = rw e₁ (v .list-opens l j c (t .list-in) (t .set) (t .ballot-in) (t .slot-in));
-  other-gives = rw e₁ (v₃ .full-opens l i q (t .list-in) (t .clear) li lq);
+  one-gives = v .list-opens l j c (t .list-in) (t .set) (t .ballot-in) (t .slot-in);
+  other-gives = v₃ .full-opens l i q (t .list-in) (t .clear) li lq;
   one-shown = shown (InEntry l i q) (listOpeningOf p r l j c) half;
   other-shown = inr (inr (full-shown p r₃ e₃ l i q (t .list-in) (t .clear) li lq));
 }
@@ -122,16 +124,16 @@ clash-twice p r₁ r₂ r₃ r e₁ e e₃ alike v v₃ shown t = record {
 -- ---- what is committed
 
 -- over any parameters that are those of both records
-commits : (p : Parameters) (r₁ r₂ : List ℕ) → parametersOf r₁ ≡ p → parametersOf r₂ ≡ p
-    → Valid (boardAt p r₁) (comparisonAt p r₁) (disclosureAt p r₁) → Valid (boardAt p r₁) (comparisonAt p r₁) (disclosureAt p r₂)
-    → (j : ℕ) → j < p .ballots → sideOf p r₁ j ≢ sideOf p r₂ j → Commits r₁ r₂ j (vote (boardAt p r₁) (disclosureAt p r₁) (disclosureAt p r₂) j)
-commits p r₁ r₂ e₁ e₂ v w j lj ne = record {
+commits : {commit : Scheme} (p : Parameters) (r₁ r₂ : List ℕ) → parametersOf r₁ ≡ p → parametersOf r₂ ≡ p
+    → ValidOver commit (boardAt p r₁) (comparisonAt p r₁) (disclosureAt p r₁) → ValidOver commit (boardAt p r₁) (comparisonAt p r₁) (disclosureAt p r₂)
+    → (j : ℕ) → j < p .ballots → sideOf p r₁ j ≢ sideOf p r₂ j → CommitsOver commit r₁ r₂ j (vote (boardAt p r₁) (disclosureAt p r₁) (disclosureAt p r₂) j)
+commits {commit} p r₁ r₂ e₁ e₂ v w j lj ne = record {
   openings = o;
   shown₁ = λ c lc. rw e₁ (both-one (disclosureAt p r₁) (disclosureAt p r₂) j c (v .sides j lj));
   shown₂ = λ c lc. rw e₂ (both-other (disclosureAt p r₁) (disclosureAt p r₂) j c (w .sides j lj) ne);
   gives = λ q lq.
       rw e₁
-      (both-give (disclosureAt p r₁) (disclosureAt p r₂) j p (InBallot (idOf p r₁ j)) (ballotCommitmentOf p r₁ j) (v .sides j lj) (w .sides j lj) ne
+      (both-give (disclosureAt p r₁) (disclosureAt p r₂) j commit (InBallot (idOf p r₁ j)) (ballotCommitmentOf p r₁ j) (v .sides j lj) (w .sides j lj) ne
       (λ c. v .ballot-opens j c lj) (λ c. w .ballot-opens j c lj) q lq);
   sum = rw e₁ refl;
 }
@@ -141,11 +143,11 @@ commits p r₁ r₂ e₁ e₂ v w j lj ne = record {
 
 -- ---- soundness
 
-pub sound-stands : (r₁ r₂ r₃ : List ℕ) → Stands r₁ → Stands r₂ → Stands r₃
+pub sound-over : (commit : Scheme) (r₁ r₂ r₃ : List ℕ) → StandsOver commit r₁ → StandsOver commit r₂ → StandsOver commit r₃
     → beforeFirstDice r₁ ≡ beforeFirstDice r₂ → beforeFirstDice r₁ ≡ beforeFirstDice r₃ → beforeSecondDice r₁ ≡ beforeSecondDice r₂
     → ((j : ℕ) → j < parametersOf r₁ .ballots → sideOf (parametersOf r₁) r₁ j ≢ sideOf (parametersOf r₂) r₂ j)
-    → maskOf (parametersOf r₁) r₁ ≢ maskOf (parametersOf r₃) r₃ → Announces r₁ r₂ r₃ ⊎ OpenedTwice r₁ r₂ r₃
-sound-stands r₁ r₂ r₃ h₁ h₂ h₃ a₂ a₃ a sides masks =
+    → maskOf (parametersOf r₁) r₁ ≢ maskOf (parametersOf r₃) r₃ → AnnouncesOver commit r₁ r₂ r₃ ⊎ OpenedTwiceOver commit r₁ r₂ r₃
+sound-over commit r₁ r₂ r₃ h₁ h₂ h₃ a₂ a₃ a sides masks =
     go (counted (boardAt p r₁) (comparisonAt p r₁) (disclosureAt p r₁) (disclosureAt p r₂) (comparisonAt p r₃) (disclosureAt p r₃) v₁ v₂ v₃ apart (rw e₃ at masks))
   where
     p : Parameters
@@ -166,13 +168,13 @@ sound-stands r₁ r₂ r₃ h₁ h₂ h₃ a₂ a₃ a sides masks =
     second₂ : take (atSecondDice p) r₂ ≡ take (atSecondDice p) r₁
     second₂ = ap (λ (x : Parameters). take (atSecondDice x) r₂) (sym e₂) ∙ sym a
 
-    v₁ : Valid (boardAt p r₁) (comparisonAt p r₁) (disclosureAt p r₁)
+    v₁ : ValidOver commit (boardAt p r₁) (comparisonAt p r₁) (disclosureAt p r₁)
     v₁ = h₁ .valid
 
-    v₂ : Valid (boardAt p r₁) (comparisonAt p r₁) (disclosureAt p r₂)
+    v₂ : ValidOver commit (boardAt p r₁) (comparisonAt p r₁) (disclosureAt p r₂)
     v₂ = over-comparison p r₁ r₂ (disclosureAt p r₂) second₂ (over-board p r₁ r₂ e₂ first₂ h₂)
 
-    v₃ : Valid (boardAt p r₁) (comparisonAt p r₃) (disclosureAt p r₃)
+    v₃ : ValidOver commit (boardAt p r₁) (comparisonAt p r₃) (disclosureAt p r₃)
     v₃ = over-board p r₁ r₃ e₃ first₃ h₃
 
     apart : (j : ℕ) → j < p .ballots → sideOf p r₁ j ≢ sideOf p r₂ j
@@ -181,7 +183,7 @@ sound-stands r₁ r₂ r₃ h₁ h₂ h₃ a₂ a₃ a sides masks =
     go : ((x : ℕ) → times x (voteOf p r₃) (p .ballots) ≡ times x (vote (boardAt p r₁) (disclosureAt p r₁) (disclosureAt p r₂)) (p .ballots))
         ⊎ (Clash (boardAt p r₁) (comparisonAt p r₁) (disclosureAt p r₁) (comparisonAt p r₃) (disclosureAt p r₃)
         ⊎ Clash (boardAt p r₁) (comparisonAt p r₁) (disclosureAt p r₂) (comparisonAt p r₃) (disclosureAt p r₃))
-        → Announces r₁ r₂ r₃ ⊎ OpenedTwice r₁ r₂ r₃
+        → AnnouncesOver commit r₁ r₂ r₃ ⊎ OpenedTwiceOver commit r₁ r₂ r₃
     go (inl often) =
         inl record {
           committed = vote (boardAt p r₁) (disclosureAt p r₁) (disclosureAt p r₂);

@@ -7,9 +7,10 @@ use native.Mathlib.Omega.{arith}
 use Rattle.laws.specs.Masks.{bit}
 use Rattle.laws.specs.Permutations.{Perm}
 use Rattle.protocol.specs.declared.Parameters.{Parameters}
+use Rattle.protocol.specs.Terms.{Scheme}
 use Rattle.protocol.specs.Layout.{lists}
 use Rattle.protocol.specs.Record.{Board, Comparison, Disclosure}
-use Rattle.protocol.specs.Stands.{Valid}
+use Rattle.protocol.specs.Stands.{ValidOver}
 
 -- ---- the board
 
@@ -20,11 +21,11 @@ boardWith p id ballot entry = record { parameters = p; id = id; ballotCommitment
 pub slot-in : (c s : ℕ) → c < 3 → s ≤ 1 → 2 * c + s < 6
 slot-in c s lc ls = omega arith
 
-pub board-moved : (p : Parameters) (id id' : ℕ → ℕ) (ballot ballot' : ℕ → ℕ → List ℕ) (entry entry' : ℕ → ℕ → ℕ → List ℕ) (k : Comparison) (d : Disclosure)
+pub board-moved : {commit : Scheme} (p : Parameters) (id id' : ℕ → ℕ) (ballot ballot' : ℕ → ℕ → List ℕ) (entry entry' : ℕ → ℕ → ℕ → List ℕ) (k : Comparison) (d : Disclosure)
     → ((j : ℕ) → j < p .ballots → id j ≡ id' j)
     → ((j q : ℕ) → j < p .ballots → q < 6 → ballot j q ≡ ballot' j q)
     → ((l i q : ℕ) → l < lists p → i < p .ballots → q < 6 → entry l i q ≡ entry' l i q)
-    → Valid (boardWith p id ballot entry) k d → Valid (boardWith p id' ballot' entry') k d
+    → ValidOver commit (boardWith p id ballot entry) k d → ValidOver commit (boardWith p id' ballot' entry') k d
 board-moved p id id' ballot ballot' entry entry' k d same-id same-ballot same-entry v = record {
   modulus-low = v .modulus-low;
   modulus-high = v .modulus-high;
@@ -68,10 +69,10 @@ perm-same {n} {f} {g} same h = record {
   apart = λ i j li lj e. h .apart i j li lj (same i li ∙ e ∙ sym (same j lj));
 }
 
-pub comparison-moved : (b : Board) (dice : List ℕ) (mask : ℕ) (position position' shift shift' : ℕ → ℕ → ℕ) (d : Disclosure)
+pub comparison-moved : {commit : Scheme} (b : Board) (dice : List ℕ) (mask : ℕ) (position position' shift shift' : ℕ → ℕ → ℕ) (d : Disclosure)
     → ((l j : ℕ) → l < lists (b .parameters) → bit mask l ≡ 1 → j < b .parameters .ballots → position l j ≡ position' l j)
     → ((l j : ℕ) → l < lists (b .parameters) → bit mask l ≡ 1 → j < b .parameters .ballots → shift l j ≡ shift' l j)
-    → Valid b (comparisonWith dice mask position shift) d → Valid b (comparisonWith dice mask position' shift') d
+    → ValidOver commit b (comparisonWith dice mask position shift) d → ValidOver commit b (comparisonWith dice mask position' shift') d
 comparison-moved b dice mask position position' shift shift' d same-position same-shift v = record {
   modulus-low = v .modulus-low;
   modulus-high = v .modulus-high;

@@ -12,7 +12,7 @@ use Rattle.laws.specs.Permutations.{Perm}
 use Rattle.laws.specs.Sums.{times}
 use Rattle.protocol.specs.declared.Parameters.{Parameters}
 use Rattle.protocol.specs.declared.Place.the-variants.{InBallot, InEntry}
-use Rattle.protocol.specs.Terms.{item, mostBallots, opened, commitment}
+use Rattle.protocol.specs.Terms.{item, mostBallots, opened, Scheme, commitment}
 use Rattle.protocol.specs.Layout.{firstCode, numberWidth, lists, atBallot, atEntry, atFirstDice, atSecondDice, atBallotHalf, atVote, atEnd}
 use Rattle.protocol.specs.Record.{parametersOf, firstDiceOf, maskOf, linkPlace, positionOf, secondDiceOf, sideOf, listHalfPlace, fullPlace, Board, Comparison, Disclosure, boardOf, comparisonOf, disclosureOf}
 use Rattle.protocol.specs.Drawing.{challenge, drawnMask, drawnSide}
@@ -38,8 +38,8 @@ pub record Laid (p : Parameters) (r : List ℕ) : Type 0 where
       → (item r (fullPlace p r l i) ≡ 0x0A) × ((number r (fullPlace p r l i + 1) 1 ≡ l) × (number r (fullPlace p r l i + 2) 2 ≡ i))
   pub end : item r (atEnd p) ≡ 0x0B
 
--- rules 3, 5 to 7, 9 to 11 and 13 to 16
-pub record Valid (b : Board) (k : Comparison) (d : Disclosure) : Type 0 where
+-- rules 3, 5 to 7, 9 to 11 and 13 to 16, over any commitment scheme
+pub record ValidOver (commit : Scheme) (b : Board) (k : Comparison) (d : Disclosure) : Type 0 where
   -- "M is the modulus, 2 to 4,294,967,295. n is the number of ballots", 1 to 4,096 (document 02, item 3). "There are 2m lists, m from 1 to
   -- 12."
   pub modulus-low : 2 ≤ b .parameters .modulus
@@ -67,13 +67,13 @@ pub record Valid (b : Board) (k : Comparison) (d : Disclosure) : Type 0 where
   -- every opened number below M, every opening giving its commitment
   pub ballot-numbers : (j c : ℕ) → j < b .parameters .ballots → c < 3 → opened (d .ballotOpening j c) < b .parameters .modulus
   pub ballot-opens : (j c : ℕ) → j < b .parameters .ballots → c < 3
-      → commitment (b .parameters) (InBallot (b .id j) (2 * c + d .side j)) (d .ballotOpening j c)
+      → commit (InBallot (b .id j) (2 * c + d .side j)) (d .ballotOpening j c)
       ≡ b .ballotCommitment j (2 * c + d .side j)
   -- "three openings of the same side"
   pub list-numbers : (l j c : ℕ) → l < lists (b .parameters) → bit (k .mask) l ≡ 1 → j < b .parameters .ballots → c < 3
       → opened (d .listOpening l j c) < b .parameters .modulus
   pub list-opens : (l j c : ℕ) → l < lists (b .parameters) → bit (k .mask) l ≡ 1 → j < b .parameters .ballots → c < 3
-      → commitment (b .parameters) (InEntry l (k .position l j) (2 * c + d .side j)) (d .listOpening l j c)
+      → commit (InEntry l (k .position l j) (2 * c + d .side j)) (d .listOpening l j c)
       ≡ b .entryCommitment l (k .position l j) (2 * c + d .side j)
   -- "on side 0 the list's three plus t"
   pub first-halves-agree : (l j : ℕ) → l < lists (b .parameters) → bit (k .mask) l ≡ 1 → j < b .parameters .ballots → d .side j ≡ 0
@@ -93,7 +93,7 @@ pub record Valid (b : Board) (k : Comparison) (d : Disclosure) : Type 0 where
   pub full-numbers : (l i q : ℕ) → l < lists (b .parameters) → bit (k .mask) l ≡ 0 → i < b .parameters .ballots → q < 6
       → opened (d .fullOpening l i q) < b .parameters .modulus
   pub full-opens : (l i q : ℕ) → l < lists (b .parameters) → bit (k .mask) l ≡ 0 → i < b .parameters .ballots → q < 6
-      → commitment (b .parameters) (InEntry l i q) (d .fullOpening l i q) ≡ b .entryCommitment l i q
+      → commit (InEntry l i q) (d .fullOpening l i q) ≡ b .entryCommitment l i q
   -- "An opened list's n values (six numbers summed) are a permutation of the announced votes": each number is among them as often
   pub values : (l : ℕ) → l < lists (b .parameters) → bit (k .mask) l ≡ 0 → (x : ℕ)
       → times x
@@ -105,15 +105,23 @@ pub record Valid (b : Board) (k : Comparison) (d : Disclosure) : Type 0 where
       (b .parameters .ballots)
       ≡ times x (d .vote) (b .parameters .ballots)
 
+-- .. with the commitments of a board's own parameters
+abbrev pub Valid : Board → Comparison → Disclosure → Type 0
+Valid b k d = ValidOver (commitment (b .parameters)) b k d
+
 -- rule 21, by document 02, item 5: no ballot has "a commitment equal to one of an earlier ballot, at whichever places"
 pub record Original (b : Board) : Type 0 where
   pub apart : (i j s t : ℕ) → i < j → j < b .parameters .ballots → s < 6 → t < 6 → b .ballotCommitment i s ≢ b .ballotCommitment j t
 
--- a record that is a proof
-pub record Stands (r : List ℕ) : Type 0 where
+-- a record that is a proof, over any commitment scheme
+pub record StandsOver (commit : Scheme) (r : List ℕ) : Type 0 where
   pub laid : Laid (parametersOf r) r
-  pub valid : Valid (boardOf r) (comparisonOf r) (disclosureOf r)
+  pub valid : ValidOver commit (boardOf r) (comparisonOf r) (disclosureOf r)
   pub original : Original (boardOf r)
+
+-- .. with the commitments of its own parameters
+abbrev pub Stands : List ℕ → Type 0
+Stands r = StandsOver (commitment (parametersOf r)) r
 
 -- rules 8 and 12: "Drawn judging also demands that they be the drawn ones."
 pub record Drawn (p : Parameters) (r : List ℕ) : Type 0 where

@@ -69,9 +69,14 @@ opening key x = key ++ bytes 4 x
 unfoldable pub opened : List ℕ → ℕ
 opened o = number o 32 4
 
+-- a commitment scheme: the commitment that an opening gives where it is posted in a place. Facts that rest on commitments are shown over
+-- any scheme (`ValidOver` in `Stands`, `OpenedTwiceOver` in `Demand3`).
+abbrev pub Scheme : Type 0
+Scheme = Place → List ℕ → List ℕ
+
 -- "A commitment is the SHA3-256 of an opening's 36 bytes." The parameters and the place where it is posted are handed on by every rule,
 -- and do not matter.
-unfoldable pub commitment : Parameters → Place → List ℕ → List ℕ
+unfoldable pub commitment : Parameters → Scheme
 commitment p place o = sha3-256 o
 
 -- "Sums and differences are taken modulo M." The numbers in three openings, and in six, summed.
