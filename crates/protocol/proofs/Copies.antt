@@ -1,21 +1,23 @@
 -- Rule 21, copied ballots: what it changes in judging, and that the servers refuse exactly the inputs that would produce a copied ballot.
 use mathlib.Core.Path.{_≡_, refl, sym, ap, ap₂, _∙_}
-use mathlib.Core.Logic.{_≢_, _⊎_, inl, inr}
+use mathlib.Core.Logic.{_≢_, _⊎_, inl, inr, ⊎-elim}
 use mathlib.Core.Bool.{Bool, true, false}
 use mathlib.Core.List.{List, []}
 use Prim.Native.Nat.{ℕ, zero, suc, _+_, _-_, _<_}
-use native.Mathlib.Nat.{le-refl}
+use native.Mathlib.Nat.{le-refl, le-of-lt}
 use native.Mathlib.Omega.{arith}
 use lib.ListN.{length}
 use Rattle.laws.specs.declared.Found.{Found}
 use Rattle.laws.specs.declared.Found.the-variants.{Nothing, Fault}
 use Rattle.laws.specs.Tests.{equal, below, atMost, _or_, _implies_, never}
 use Rattle.laws.specs.Faults.{rule, kept, located, _then_, first, numberOf, nothing-fault, then-go, then-stop}
-use Rattle.sha3.specs.Sha3.{sha3-256}
+use Rattle.protocol.specs.declared.Form.the-variants.{Unnumbered, Numbered}
 use Rattle.protocol.specs.declared.Parameters.{Parameters}
+use Rattle.protocol.specs.declared.Place.{Place}
+use Rattle.protocol.specs.declared.Place.the-variants.{InBallot, InEntry}
 use Rattle.protocol.specs.declared.Due.the-variants.{First, Ballot}
 use Rattle.protocol.specs.Answers.{answerOf, refused}
-use Rattle.protocol.specs.Terms.{item, commitment}
+use Rattle.protocol.specs.Terms.{item, electionNumber, commitment}
 use Rattle.protocol.specs.Layout.{atBallot, lists}
 use Rattle.protocol.specs.Record.{parametersOf, idOf, ballotCommitmentOf, boardOf}
 use Rattle.protocol.specs.Rules.{original, ballotRules, faultWith}
@@ -30,6 +32,9 @@ use Rattle.protocol.proofs.Tested.{fault-with-iff, ballot-tests}
 use Rattle.protocol.proofs.Faultless.{accepted-nothing, accepted-iff, fault-with}
 use Rattle.protocol.proofs.Accepting.{accepts-with-iff}
 use Rattle.protocol.proofs.Unfitting.{copied}
+use Rattle.protocol.proofs.Honesty.{length-opening}
+use Rattle.protocol.proofs.Tallies.{climbs}
+use Rattle.protocol.proofs.Places.{Nameable, HashCollision, Same, same-or, unnumbered-same}
 use Rattle.protocol.proofs.Completeness.{Taken, written, written-laid, written-commitment, written-parameters}
 
 -- ---- one ballot
@@ -189,12 +194,55 @@ module _ (drawn : Bool) (r : List ℕ) where
 
 -- ---- the servers
 
+-- the id in a ballot's place
+abbrev ballotId : Place → ℕ
+ballotId (InBallot id slot) = id
+ballotId (InEntry list position slot) = 0
+
 module _ (s : Slices) where
-  -- two ballots of which one has the other's opening in some slot are refused: equal openings have equal commitments
-  pub copied-inputs : (i j a b : ℕ) → i < j → j < s .parameters .ballots → a < 6 → b < 6
+  -- with 01, two ballots of which one has the other's opening in some slot are refused: equal openings have equal commitments. With 0C they
+  -- have other ids, and are not (`numbered-original` in `Places`).
+  pub copied-inputs : s .parameters .form ≡ Unnumbered → (i j a b : ℕ) → i < j → j < s .parameters .ballots → a < 6 → b < 6
       → ballotOpening (inputsOf s) i a ≡ ballotOpening (inputsOf s) j b → allOriginal s ≡ false
-  unfolding postedBoard commitment
-  copied-inputs i j a b l lj la lb e = copied s .1 (i, j, a, b, l, lj, la, lb, ap sha3-256 e)
+  unfolding postedBoard inputsOf
+  copied-inputs form i j a b l lj la lb e =
+      let p = s .parameters in
+      let at : ℕ → ℕ → Place = λ k q. InBallot (item (s .ids) k) q in
+      let same = ap (commitment p (at i a)) e ∙ unnumbered-same p (at i a) (at j b) (ballotOpening (inputsOf s) j b) form in
+      copied s .1 (i, j, a, b, l, lj, la, lb, same)
+
+  -- with 0C they are refused only where a collision is shown, whatever their openings
+  pub numbered-original : (election : ℕ) → s .parameters .form ≡ Numbered election → Good (inputsOf s) → (allOriginal s ≡ true) ⊎ HashCollision
+  unfolding postedBoard inputsOf ballotOpening electionNumber
+  numbered-original election form g = go (allOriginal s) refl
+    where
+      apart : (i j : ℕ) → i < j → j < s .parameters .ballots → item (s .ids) i ≢ item (s .ids) j
+      apart i j l lj e =
+          let up = g .ids-rise i (omega arith) in
+          let on = climbs (item (s .ids)) (s .parameters .ballots) (λ k lk. le-of-lt (g .ids-rise k lk)) (suc i) j l lj in
+          omega (arith, up, on, e)
+
+      long : (j q : ℕ) → j < s .parameters .ballots → q < 6 → length (ballotOpening (inputsOf s) j q) ≡ 36
+      long j q lj lq = length-opening _ _ (g .ballot-keys j q lj lq)
+
+      named : (j q : ℕ) → j < s .parameters .ballots → q < 6 → Nameable (InBallot (item (s .ids) j) q)
+      named j q lj lq = (g .ids-fit j lj, omega arith)
+
+      small : electionNumber (s .parameters .form) < 4294967296
+      small = g .election-fits
+
+      other : (i j a b : ℕ) → i < j → j < s .parameters .ballots
+          → Same (s .parameters .form) (InBallot (item (s .ids) i) a) (ballotOpening (inputsOf s) i a) (s .parameters .form) (InBallot (item (s .ids) j) b) (ballotOpening (inputsOf s) j b)
+          → ⊥
+      other i j a b l lj h = let (u, (v, w)) = rw form at h in apart i j l lj (ap ballotId v)
+
+      go : (x : Bool) → allOriginal s ≡ x → (allOriginal s ≡ true) ⊎ HashCollision
+      go true e = inl e
+      go false e =
+          let (i, j, a, b, l, lj, la, lb, q) = copied s .0 e in
+          let li : i < s .parameters .ballots = omega arith in
+          ⊎-elim (λ h. absurd (other i j a b l lj h)) inr
+          (same-or (s .parameters) (s .parameters) _ _ _ _ small small (named i a li la) (named j b lj lb) (long i a li la ∙ sym (long j b lj lb)) q)
 
   -- "Servers refuse inputs that would produce such a board.": the record that the rules give for inputs that break no rule but 21 is
   -- refused by 21

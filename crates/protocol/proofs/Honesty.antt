@@ -40,7 +40,7 @@ pub record Chosen (s : Inputs) (dice₁ dice₂ : List ℕ) (mask : ℕ) (side :
 
 pub length-commitment : (p : Parameters) (place : Place) (o : List ℕ) → length (commitment p place o) ≡ 32
 unfolding commitment
-length-commitment p place o = sha3-256-length o
+length-commitment p place o = sha3-256-length _
 
 pub length-opening : (key : List ℕ) (x : ℕ) → length key ≡ 32 → length (opening key x) ≡ 36
 unfolding opening

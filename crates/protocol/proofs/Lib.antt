@@ -33,6 +33,7 @@ pub mod Accepting
 pub mod Announced
 pub mod Tallies
 pub mod Pages
+pub mod Places
 pub mod Reencoding
 pub mod Completeness
 pub mod Committing

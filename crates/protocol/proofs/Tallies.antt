@@ -84,7 +84,7 @@ total-count d (x ∷ xs) h =
 -- ---- the distinct votes
 
 -- what does not fall step by step does not fall
-climbs : (f : ℕ → ℕ) (n : ℕ) → ((j : ℕ) → suc j < n → f j ≤ f (suc j)) → (i j : ℕ) → i ≤ j → j < n → f i ≤ f j
+pub climbs : (f : ℕ → ℕ) (n : ℕ) → ((j : ℕ) → suc j < n → f j ≤ f (suc j)) → (i j : ℕ) → i ≤ j → j < n → f i ≤ f j
 climbs f n h i zero l k = let e : i ≡ 0 = omega arith in rw e (le-refl (f 0))
 climbs f n h i (suc j) l k = go (eq-or-lt-of-le l) (λ m. climbs f n h i j m (omega arith))
   where

@@ -11,6 +11,7 @@ use Rattle.protocol.specs.declared.Form.{Form}
 use Rattle.protocol.specs.declared.Form.the-variants.{Unnumbered, Numbered}
 use Rattle.protocol.specs.declared.Parameters.{Parameters}
 use Rattle.protocol.specs.declared.Place.{Place}
+use Rattle.protocol.specs.declared.Place.the-variants.{InBallot, InEntry}
 
 -- the parameters: the first command's form, M, n and m
 abbrev pub parameters : Form → ℕ → ℕ → ℕ → Parameters
@@ -74,10 +75,20 @@ opened o = number o 32 4
 abbrev pub Scheme : Type 0
 Scheme = Place → List ℕ → List ℕ
 
--- "A commitment is the SHA3-256 of an opening's 36 bytes." The parameters and the place where it is posted are handed on by every rule,
--- and do not matter.
+-- where a commitment is posted, as bytes. Document 02, item 8: "slot 1 (0 to 5 in the order of u1, v1, u2, v2, u3, v3), list 1 (255 decimal
+-- for a ballot), and ballot id or position 4"
+unfoldable pub placeBytes : Place → List ℕ
+placeBytes (InBallot id slot) = (bytes 1 slot ++ bytes 1 255) ++ bytes 4 id
+placeBytes (InEntry list position slot) = (bytes 1 slot ++ bytes 1 list) ++ bytes 4 position
+
+-- what is hashed of an opening: with 01 "an opening's 36 bytes", and with 0C "key, number, election number 4, slot 1 .."
+unfoldable pub hashedBytes : Form → Scheme
+hashedBytes Unnumbered place o = o
+hashedBytes (Numbered election) place o = o ++ (bytes 4 election ++ placeBytes place)
+
+-- "A commitment is the SHA3-256" of it
 unfoldable pub commitment : Parameters → Scheme
-commitment p place o = sha3-256 o
+commitment p place o = sha3-256 (hashedBytes (p .form) place o)
 
 -- "Sums and differences are taken modulo M." The numbers in three openings, and in six, summed.
 unfoldable pub sumOfThree : ℕ → (ℕ → List ℕ) → ℕ
