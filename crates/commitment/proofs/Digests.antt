@@ -9,4 +9,4 @@ use Rattle.protocol.specs.Terms.{commitment}
 
 pub commitment-below : (p : Parameters) (place : Place) (o : List ℕ) → Below 256 (commitment p place o)
 unfolding commitment
-commitment-below p place o = sha3-256-below o
+commitment-below p place o = sha3-256-below _

@@ -1,1 +1,2 @@
 pub mod Digests
+pub mod Hashed

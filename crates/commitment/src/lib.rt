@@ -1,13 +1,17 @@
 // Openings and commitments: written from a key and a number, and checked in a record.
 ghost use mathlib.Core.Path.{_≡_};
+ghost use mathlib.Core.List.{_++_};
 ghost use Prim.Native.Nat.{_+_, _≤_};
 ghost use lib.ListN.{length};
+ghost use Rattle.laws.specs.Bytes.{bytes};
 ghost use Rattle.laws.specs.Chunks.{piece};
 ghost use Rattle.laws.specs.Lent.{before, after};
 ghost use Rattle.laws.specs.Writing.{Went};
-ghost use Rattle.protocol.specs.Terms.{opening, commitment};
+ghost use Rattle.sha3.specs.Sha3.{sha3-256};
+ghost use Rattle.protocol.specs.Terms.{opening, placeBytes, commitment};
 ghost use Rattle.protocol.specs.Rules as rules;
 ghost use Rattle.commitment.specs.Slots.{inSlot};
+use protocol::Form;
 use protocol::Parameters;
 use protocol::Place;
 
@@ -21,16 +25,69 @@ pub fn in_slot(place: Place, q: usize) -> Place
     }
 }
 
-// Whether an opening gives the commitment posted in a place; both lie in the bytes. The form of a commitment is known here and in
-// `put_commitment` only: of parameters and place nothing is hashed.
+// Where a commitment is posted, as the bytes that are hashed with it: the slot, the list or 255 for a ballot, the position or the ballot's id.
+fn put_told(out: &mut [u8], at: usize, slot: usize, list: u32, x: u32) -> usize
+    requires { ⌜ at + 6 ≤ length (now out) ⌝ }
+    ensures { λ r. ⌜ Went (before out) at ((bytes 1 slot ++ bytes 1 list) ++ bytes 4 x) (after out) r ⌝ }
+{
+    let a = wire::put1(out, at, (slot % 256) as u32);
+    let b = wire::put1(out, a, list);
+    wire::put4(out, b, x)
+}
+
+fn put_place(out: &mut [u8], at: usize, place: Place) -> usize
+    requires { ⌜ at + 6 ≤ length (now out) ⌝ }
+    ensures { λ r. ⌜ Went (before out) at (placeBytes place) (after out) r ⌝ }
+{
+    match place {
+        Place::InBallot(id, q) => put_told(out, at, q, 255, id),
+        Place::InEntry(l, i, q) => put_told(out, at, q, (l % 256) as u32, (i % 4294967296) as u32),
+    }
+}
+
+// The SHA3-256 of a key, a number's four bytes, the election's number and a place.
+fn hash_placed(key: &[u8], number: &[u8], election: u32, place: Place, out: &mut [u8])
+    requires { ⌜ (length (now number) ≡ 4) × (length (now out) ≡ 32) ⌝ }
+    ensures { λ _. ⌜ after out ≡ sha3-256 (before key ++ (before number ++ (bytes 4 election ++ placeBytes place))) ⌝ }
+{
+    let mut rest = [0u8; 14];
+    let a = wire::copy(&mut rest, 0, number);
+    let b = wire::put4(&mut rest, a, election);
+    put_place(&mut rest, b, place);
+    sha3::hash_two(136, key, &rest, out);
+}
+
+// The hash of an opening that lies in the bytes, as it is posted in a place. The form of a commitment is known here and in
+// `put_commitment` only.
+fn hash_opening(p: Parameters, place: Place, bytes: &[u8], at: usize, out: &mut [u8; 32])
+    requires { ⌜ at + 36 ≤ length (now bytes) ⌝ }
+    ensures { λ _. ⌜ after out ≡ commitment p place (piece (before bytes) at 36) ⌝ }
+{
+    let key_end = at + 32;
+    let end = at + 36;
+    let form = p.form;
+    match form {
+        Form::Unnumbered => sha3::sha3_256(&bytes[at..end], out),
+        Form::Numbered(election) => {
+            hash_placed(
+                &bytes[at..key_end],
+                &bytes[key_end..end],
+                election,
+                place,
+                out,
+            )
+        }
+    }
+}
+
+// Whether an opening gives the commitment posted in a place; both lie in the bytes.
 pub fn gives(p: Parameters, place: Place, bytes: &[u8], opening_at: usize, posted_at: usize) -> bool
     requires { ⌜ («opening_at» + 36 ≤ length (now bytes)) × («posted_at» + 32 ≤ length (now bytes)) ⌝ }
     ensures { λ r. ⌜ r ≡ rules.gives p place (piece (before bytes) «opening_at» 36) (piece (before bytes) «posted_at» 32) ⌝ }
 {
-    let opening_end = opening_at + 36;
     let posted_end = posted_at + 32;
     let mut hash = [0u8; 32];
-    sha3::sha3_256(&bytes[opening_at..opening_end], &mut hash);
+    hash_opening(p, place, bytes, opening_at, &mut hash);
     wire::same_bytes(&hash, &bytes[posted_at..posted_end])
 }
 
@@ -59,6 +116,10 @@ pub fn put_commitment(
     let mut number = [0u8; 4];
     wire::put4(&mut number, 0, x);
     let end = at + 32;
-    sha3::hash_two(136, key, &number, &mut out[at..end]);
+    let form = p.form;
+    match form {
+        Form::Unnumbered => sha3::hash_two(136, key, &number, &mut out[at..end]),
+        Form::Numbered(election) => hash_placed(key, &number, election, place, &mut out[at..end]),
+    }
     end
 }

@@ -66,8 +66,7 @@ told-tells : (s l x s' l' x' : ℕ) → s < 256 → l < 256 → x < 4294967296 �
 told-tells s l x s' l' x' hs hl hx hs' hl' hx' e =
     let n : length (bytes 1 s ++ bytes 1 l) ≡ length (bytes 1 s' ++ bytes 1 l') = omega (arith, length-append (bytes 1 s) (bytes 1 l), length-append (bytes 1 s') (bytes 1 l'), length-bytes 1 s, length-bytes 1 l, length-bytes 1 s', length-bytes 1 l') in
     let m : length (bytes 1 s) ≡ length (bytes 1 s') = omega (arith, length-bytes 1 s, length-bytes 1 s') in
-    let head = front-is _ _ (bytes 4 x) (bytes 4 x') n e in
-    (
+    let head = front-is _ _ (bytes 4 x) (bytes 4 x') n e in (
       bytes-tell 1 s s' hs hs' (front-is _ _ (bytes 1 l) (bytes 1 l') m head),
       (
         bytes-tell 1 l l' hl hl' (back-is (bytes 1 s) (bytes 1 s') _ _ m head),
@@ -113,8 +112,7 @@ pub numbered-tells : (election election' : ℕ) (a b : Place) (o o' : List ℕ) 
 unfolding hashedBytes
 numbered-tells election election' a b o o' he he' ha hb n e =
     let tail = back-is o o' _ _ n e in
-    let m : length (bytes 4 election) ≡ length (bytes 4 election') = omega (arith, length-bytes 4 election, length-bytes 4 election') in
-    (
+    let m : length (bytes 4 election) ≡ length (bytes 4 election') = omega (arith, length-bytes 4 election, length-bytes 4 election') in (
       bytes-tell 4 election election' he he' (front-is _ _ (placeBytes a) (placeBytes b) m tail),
       (place-tells a b ha hb (back-is (bytes 4 election) (bytes 4 election') _ _ m tail), front-is o o' _ _ n e),
     )

@@ -1,28 +1,45 @@
--- `commitment::put_commitment` meets its contract: the digest of the key and of the number's bytes.
-use mathlib.Core.Path.{ap₂, _∙_}
+-- `commitment::put_commitment` meets its contract in either form: the digest of the key and of the number's bytes, with election and place
+-- behind them or not.
+use mathlib.Core.Path.{refl, sym, ap₂, _∙_}
 use mathlib.Core.List.{List, _++_}
 use Prim.Native.Nat.{ℕ, _+_, _-_}
 use native.Mathlib.Omega.{arith}
 use borrow.Author.Needs.{needs}
-use Rattle.laws.specs.Bytes.{length-bytes}
+use Rattle.laws.specs.Bytes.{bytes, length-bytes}
 use Rattle.laws.specs.Writing.{whole, lent, part-length}
 use Rattle.sha3.specs.Sha3.{digest, sha3-256}
-use Rattle.sha3.proofs.Digest.{sha3-256-length}
-use Rattle.protocol.specs.Terms.{opening, commitment}
+use Rattle.protocol.specs.Terms.{opening}
+use Rattle.protocol.proofs.Honesty.{length-commitment}
+use Rattle.commitment.proofs.Hashed.{unnumbered-is, numbered-is}
 use Rattle.commitment.proofs.put_commitment.Statement.{statement}
 use Rattle.commitment.proofs.put_commitment.Tie as tie
 
 returns : tie.Need-returns
-unfolding commitment opening sha3-256
+unfolding opening sha3-256
 returns c =
-    let hashed = c .before .before in
-    let put4 = hashed .before .before .before .before in
-    let args = put4 .before .before .before .before .args in
-    let out = args .out .now in
-    let number = whole (put4 .put4 .ensures .wrote) (length-bytes 4 (args .x)) in
-    let is = hashed .hash-two .ensures ∙ ap₂ (λ (m : List ℕ) (d : ℕ). digest 136 d (args .key .now ++ m)) number (part-length out (args .at) 32 (omega arith)) in
-    let long = sha3-256-length (opening (args .key .now) (args .x)) in
-    record { wrote = lent out (args .at) (args .at + 32 - args .at) is (omega arith) (omega arith); to = omega arith }
+    let s = c .before .before .before .before .before .before .before .before .before .before .before .before in
+    let out = s .args .out .now in
+    let at = s .args .at in
+    let number = whole (c .before .before .before .before .before .before .before .before .put4 .ensures .wrote) (length-bytes 4 (s .args .x)) in
+    let is =
+    c .before .before .hash-two .ensures
+    ∙ ap₂ (λ (m : List ℕ) (d : ℕ). digest 136 d (s .args .key .now ++ m)) number (part-length out at 32 (omega arith))
+    ∙ sym (unnumbered-is (s .args .p) (s .args .place) (opening (s .args .key .now) (s .args .x)) (c .before .before .before .before .before .enum-told .given .1)) in
+    let long = length-commitment (s .args .p) (s .args .place) (opening (s .args .key .now) (s .args .x)) in
+    record { wrote = lent out at (at + 32 - at) is (omega arith) (omega arith); to = omega arith }
+
+returns-2 : tie.Need-returns-2
+unfolding opening
+returns-2 c =
+    let s = c .before .before .before .before .before .before .before .before .before .before .before .before .before in
+    let out = s .args .out .now in
+    let at = s .args .at in
+    let number = whole (c .before .before .before .before .before .before .before .before .before .put4 .ensures .wrote) (length-bytes 4 (s .args .x)) in
+    let is =
+    c .before .before .hash-placed .ensures
+    ∙ numbered-is (s .args .p) (s .args .place) {key = s .args .key .now} {number = bytes 4 (s .args .x)} (c .before .before .before .before .before .before .form .given .1) refl number in
+    let long = length-commitment (s .args .p) (s .args .place) (opening (s .args .key .now) (s .args .x)) in
+    record { wrote = lent out at (at + 32 - at) is (omega arith) (omega arith); to = omega arith }
 
 pub put-commitment-spec : {M : Type 1} → statement M
 put-commitment-spec =
@@ -35,6 +52,15 @@ put-commitment-spec =
     (λ c. search needs)
     (λ c. search needs)
     (λ c. search needs)
+    (λ c. search needs)
     (λ c κs. search needs)
     (λ c. search needs)
-    returns)
+    (λ c. search needs)
+    (λ c. search needs)
+    (λ c. search needs)
+    (λ c. search needs)
+    (λ c κs. search needs)
+    (λ c. search needs)
+    returns
+    (λ c. search needs)
+    returns-2)
