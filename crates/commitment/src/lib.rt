@@ -8,7 +8,8 @@ ghost use Rattle.laws.specs.Chunks.{piece};
 ghost use Rattle.laws.specs.Lent.{before, after};
 ghost use Rattle.laws.specs.Writing.{Went};
 ghost use Rattle.sha3.specs.Sha3.{sha3-256};
-ghost use Rattle.protocol.specs.Terms.{opening, placeBytes, commitment};
+ghost use Rattle.protocol.specs.declared.Form.the-variants.{Numbered};
+ghost use Rattle.protocol.specs.Terms.{opening, placeBytes, hashedBytes, commitment};
 ghost use Rattle.protocol.specs.Rules as rules;
 ghost use Rattle.commitment.specs.Slots.{inSlot};
 use protocol::Form;
@@ -45,16 +46,17 @@ fn put_place(out: &mut [u8], at: usize, place: Place) -> usize
     }
 }
 
-// The SHA3-256 of a key, a number's four bytes, the election's number and a place.
-fn hash_placed(key: &[u8], number: &[u8], election: u32, place: Place, out: &mut [u8])
-    requires { ⌜ (length (now number) ≡ 4) × (length (now out) ≡ 32) ⌝ }
-    ensures { λ _. ⌜ after out ≡ sha3-256 (before key ++ (before number ++ (bytes 4 election ++ placeBytes place))) ⌝ }
+// The SHA3-256 of an opening, the election's number and a place, 46 bytes. The two bytes behind them are 0, so that the sponge takes whole
+// lanes.
+fn hash_placed(key: &[u8], x: u32, election: u32, place: Place, out: &mut [u8])
+    requires { ⌜ (length (now key) ≡ 32) × (length (now out) ≡ 32) ⌝ }
+    ensures { λ _. ⌜ after out ≡ sha3-256 (hashedBytes (Numbered election) place (opening (before key) x)) ⌝ }
 {
-    let mut rest = [0u8; 14];
-    let a = wire::copy(&mut rest, 0, number);
+    let mut rest = [0u8; 16];
+    let a = wire::put4(&mut rest, 0, x);
     let b = wire::put4(&mut rest, a, election);
     put_place(&mut rest, b, place);
-    sha3::hash_two(136, key, &rest, out);
+    sha3::hash_short(136, key, &rest, 14, out);
 }
 
 // The hash of an opening that lies in the bytes, as it is posted in a place. The form of a commitment is known here and in
@@ -69,13 +71,8 @@ fn hash_opening(p: Parameters, place: Place, bytes: &[u8], at: usize, out: &mut 
     match form {
         Form::Unnumbered => sha3::sha3_256(&bytes[at..end], out),
         Form::Numbered(election) => {
-            hash_placed(
-                &bytes[at..key_end],
-                &bytes[key_end..end],
-                election,
-                place,
-                out,
-            )
+            let x = wire::read4(bytes, key_end);
+            hash_placed(&bytes[at..key_end], x, election, place, out)
         }
     }
 }
@@ -113,13 +110,15 @@ pub fn put_commitment(
     requires { ⌜ (length (now key) ≡ 32) × (at + 32 ≤ length (now out)) ⌝ }
     ensures { λ r. ⌜ Went (before out) at (commitment p place (opening (before key) x)) (after out) r ⌝ }
 {
-    let mut number = [0u8; 4];
-    wire::put4(&mut number, 0, x);
     let end = at + 32;
     let form = p.form;
     match form {
-        Form::Unnumbered => sha3::hash_two(136, key, &number, &mut out[at..end]),
-        Form::Numbered(election) => hash_placed(key, &number, election, place, &mut out[at..end]),
+        Form::Unnumbered => {
+            let mut number = [0u8; 4];
+            wire::put4(&mut number, 0, x);
+            sha3::hash_two(136, key, &number, &mut out[at..end])
+        }
+        Form::Numbered(election) => hash_placed(key, x, election, place, &mut out[at..end]),
     }
     end
 }

@@ -134,7 +134,7 @@ block-is w (x ∷ xs) (a ∷ b ∷ c ∷ d ∷ f ∷ g ∷ i ∷ []) e h k = abs
 
 -- ---- the pad
 
-zero-byte : (l : List ℕ) (n : ℕ) → xorByte l n 0 ≡ l
+pub zero-byte : (l : List ℕ) (n : ℕ) → xorByte l n 0 ≡ l
 unfolding xorByte
 zero-byte l n =
     ap (λ (z : ℕ). set l (n / 8) (bitXor (at l (n / 8)) z)) (zero-mul (2 ^ (n % 8 * 8))) ∙ ap (set l (n / 8)) (xor-zero-r (at l (n / 8))) ∙ set-getD l (n / 8) 0

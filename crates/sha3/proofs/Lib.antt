@@ -3,3 +3,4 @@ pub mod Taking
 pub mod Squeeze
 pub mod Agree
 pub mod Digest
+pub mod Zeros

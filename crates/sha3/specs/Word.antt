@@ -1,8 +1,9 @@
 -- Eight bytes at once: those of a message as the code adds them to a lane, and those of a lane as it writes them.
+use mathlib.Core.Path.{_≡_}
 use mathlib.Core.List.{List}
-use Prim.Native.Nat.{ℕ, zero, suc, _+_, _*_, _/_, _%_, _^_}
+use Prim.Native.Nat.{ℕ, zero, suc, _+_, _-_, _*_, _/_, _%_, _^_, _≤_, _<_}
 use lib.Bits.{bitXor}
-use lib.ListN.{set}
+use lib.ListN.{length, set, drop, replicate}
 use Rattle.keccak.specs.Keccak.{at}
 
 -- the number that the eight bytes from i on make, the lowest first
@@ -31,3 +32,9 @@ addWords l p i (suc n) = set (addWords l p i n) n (bitXor (at (addWords l p i n)
 unfoldable pub putLane : List ℕ → ℕ → ℕ → ℕ → List ℕ
 putLane out i lane zero = out
 putLane out i lane (suc n) = set (putLane out i lane n) (i + n) (lane / 2 ^ (n * 8) % 256)
+
+-- bytes behind a message of k bytes, of which the first n count: behind these are zeros, and a block has room for all of them
+pub record Short (rate k : ℕ) (b : List ℕ) (n : ℕ) : Type 0 where
+  pub counted : n ≤ length b
+  pub zeros : drop n b ≡ replicate (length b - n) 0
+  pub room : k + length b < rate

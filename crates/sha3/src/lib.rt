@@ -5,7 +5,7 @@ ghost use Prim.Native.Nat.{_+_, _/_, _≤_, _<_};
 ghost use lib.ListN.{length, take};
 ghost use Rattle.laws.specs.Lent.{before, after};
 ghost use Rattle.sha3.specs.Sha3.{Rate, sponge, xorByte, absorbBytes, empty, padded, squeeze, digest, sha3-224, sha3-256};
-ghost use Rattle.sha3.specs.Word.{wordAt, halfWordAt, addWords, putLane};
+ghost use Rattle.sha3.specs.Word.{wordAt, halfWordAt, addWords, putLane, Short};
 
 // A sponge: the state, and how many bytes of the block at hand were added to it.
 pub struct Sponge {
@@ -194,6 +194,19 @@ pub fn hash_two(rate: usize, a: &[u8], b: &[u8], out: &mut [u8])
     let one = absorb_into(&mut l, s.fill, rate, a);
     let two = absorb_into(&mut l, one, rate, b);
     finish_into(&mut l, two, rate, out);
+}
+
+// The digest, as long as `out`, of a message shorter than a block, in two parts: a, and the first n bytes of b. Behind these b has zeros, which
+// change no lane: so the last lane is taken at once.
+pub fn hash_short(rate: usize, a: &[u8], b: &[u8], n: usize, out: &mut [u8])
+    requires { ⌜ Rate rate × ((length (now out) ≤ rate) × Short rate (length (now a)) (now b) n) ⌝ }
+    ensures { λ _. ⌜ after out ≡ digest rate (length (before out)) (before a ++ take n (before b)) ⌝ }
+{
+    let s = start();
+    let mut l = s.lanes;
+    let fill = absorb_into(&mut l, s.fill, rate, a);
+    absorb_into(&mut l, fill, rate, b);
+    finish_into(&mut l, fill + n, rate, out);
 }
 
 // The digest, as long as `out`, of a message in three parts.

@@ -1,38 +1,41 @@
--- `commitment::hash_placed` meets its contract: the digest of the key and of the rest, which is written behind it.
-use mathlib.Core.Path.{_≡_, ap₂, _∙_}
-use mathlib.Core.List.{List, _++_, append-assoc}
+-- `commitment::hash_placed` meets its contract: the digest of the key and of what is written behind it.
+use mathlib.Core.Path.{_≡_, ap, ap₂, _∙_}
+use mathlib.Core.List.{List, _++_}
 use Prim.Native.Nat.{ℕ}
 use native.Mathlib.Omega.{arith}
-use lib.ListN.{length, length-append}
 use borrow.Author.Needs.{needs}
-use Rattle.laws.specs.Bytes.{bytes, length-bytes}
-use Rattle.laws.specs.Writing.{whole, go-on, go-same}
+use lib.ListN.{length}
+use Rattle.laws.specs.Bytes.{length-bytes}
+use Rattle.laws.specs.Writing.{go-on}
 use Rattle.sha3.specs.Sha3.{digest, sha3-256}
-use Rattle.protocol.specs.Terms.{placeBytes}
-use Rattle.protocol.proofs.Places.{length-place}
+use Rattle.sha3.specs.Word.{Short}
+use Rattle.sha3.proofs.Agree.{rate-256}
+use Rattle.commitment.proofs.Hashed.{behind-is, rest-taken, rest-short}
 use Rattle.commitment.proofs.hash_placed.Statement.{statement}
 use Rattle.commitment.proofs.hash_placed.Tie as tie
 
+put4-requires-2 : tie.Need-put4-requires-2
+put4-requires-2 c κs = omega (arith, length-bytes 4 (c .before .before .before .before .before .before .args .x))
+
 put-place-requires : tie.Need-put-place-requires
-put-place-requires c κs = omega (arith, length-bytes 4 (c .before .before .before .before .before .before .before .before .before .before .args .election))
+put-place-requires c κs = let s = c .before .before .before .before .before .before .before .before .before in omega (arith, length-bytes 4 (s .args .x), length-bytes 4 (s .args .election))
+
+hash-short-requires : tie.Need-hash-short-requires
+hash-short-requires c κs =
+    let s = c .before .before .before .before .before .before .before .before .before .before .before .before .before in
+    let went = go-on (go-on (c .before .before .before .before .before .before .before .before .before .put4 .ensures) (c .before .before .before .before .before .before .put42 .ensures)) (c .before .before .before .put-place .ensures) in
+    let short = rest-short (s .args .x) (s .args .election) (s .args .place) (went .wrote) in
+    (rate-256, (omega arith, record { counted = short .counted; zeros = short .zeros; room = omega (arith, short .room) }))
 
 returns : tie.Need-returns
 unfolding sha3-256
 returns c =
-    let s = c .before .before .before .before .before .before .before .before .before .before .before .before .before .before .before .before .before in
-    let number = s .args .number .now in
-    let tail = bytes 4 (s .args .election) ++ placeBytes (s .args .place) in
-    let long : length (number ++ tail) ≡ 14 =
-    omega (
-      arith,
-      length-append number tail,
-      length-append (bytes 4 (s .args .election)) (placeBytes (s .args .place)),
-      length-bytes 4 (s .args .election),
-      length-place (s .args .place),
-    ) in
-    let went = go-on (go-on (c .before .before .before .before .before .before .before .before .before .before .before .before .copy .ensures) (c .before .before .before .before .before .before .before .before .before .put4 .ensures)) (c .before .before .before .before .before .before .put-place .ensures) in
-    let rest = whole (go-same went (append-assoc number (bytes 4 (s .args .election)) (placeBytes (s .args .place))) .wrote) long in
-    c .before .before .hash-two .ensures ∙ ap₂ (λ (m : List ℕ) (d : ℕ). digest 136 d (s .args .key .now ++ m)) rest (s .pre .1)
+    let s = c .before .before .before .before .before .before .before .before .before .before .before .before .before .before .before .before in
+    let went = go-on (go-on (c .before .before .before .before .before .before .before .before .before .before .before .before .put4 .ensures) (c .before .before .before .before .before .before .before .before .before .put42 .ensures)) (c .before .before .before .before .before .before .put-place .ensures) in
+    let taken = rest-taken (s .args .x) (s .args .election) (s .args .place) (went .wrote) in
+    c .before .before .hash-short .ensures
+    ∙ ap₂ (λ (m : List ℕ) (d : ℕ). digest 136 d (s .args .key .now ++ m)) taken (s .pre .1)
+    ∙ ap (digest 136 32) (behind-is (s .args .key .now) (s .args .x) (s .args .election) (s .args .place))
 
 pub hash-placed-spec : {M : Type 1} → statement M
 hash-placed-spec =
@@ -41,10 +44,10 @@ hash-placed-spec =
     (λ c. search needs)
     (λ c κs. search needs)
     (λ c. search needs)
-    (λ c κs. search needs)
+    put4-requires-2
     (λ c. search needs)
     put-place-requires
     (λ c. search needs)
-    (λ c κs. search needs)
+    hash-short-requires
     (λ c. search needs)
     returns)

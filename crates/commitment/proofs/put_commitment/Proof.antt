@@ -5,7 +5,7 @@ use mathlib.Core.List.{List, _++_}
 use Prim.Native.Nat.{ℕ, _+_, _-_}
 use native.Mathlib.Omega.{arith}
 use borrow.Author.Needs.{needs}
-use Rattle.laws.specs.Bytes.{bytes, length-bytes}
+use Rattle.laws.specs.Bytes.{length-bytes}
 use Rattle.laws.specs.Writing.{whole, lent, part-length}
 use Rattle.sha3.specs.Sha3.{digest, sha3-256}
 use Rattle.protocol.specs.Terms.{opening}
@@ -20,25 +20,23 @@ returns c =
     let s = c .before .before .before .before .before .before .before .before .before .before .before .before in
     let out = s .args .out .now in
     let at = s .args .at in
-    let number = whole (c .before .before .before .before .before .before .before .before .put4 .ensures .wrote) (length-bytes 4 (s .args .x)) in
+    let o : List ℕ = opening (s .args .key .now) (s .args .x) in
+    let number = whole (c .before .before .before .before .before .before .put4 .ensures .wrote) (length-bytes 4 (s .args .x)) in
     let is =
     c .before .before .hash-two .ensures
     ∙ ap₂ (λ (m : List ℕ) (d : ℕ). digest 136 d (s .args .key .now ++ m)) number (part-length out at 32 (omega arith))
-    ∙ sym (unnumbered-is (s .args .p) (s .args .place) (opening (s .args .key .now) (s .args .x)) (c .before .before .before .before .before .enum-told .given .1)) in
-    let long = length-commitment (s .args .p) (s .args .place) (opening (s .args .key .now) (s .args .x)) in
+    ∙ sym (unnumbered-is (s .args .p) (s .args .place) o (c .before .before .before .before .before .before .before .before .enum-told .given .1)) in
+    let long = length-commitment (s .args .p) (s .args .place) o in
     record { wrote = lent out at (at + 32 - at) is (omega arith) (omega arith); to = omega arith }
 
 returns-2 : tie.Need-returns-2
-unfolding opening
 returns-2 c =
-    let s = c .before .before .before .before .before .before .before .before .before .before .before .before .before in
+    let s = c .before .before .before .before .before .before .before .before .before in
     let out = s .args .out .now in
     let at = s .args .at in
-    let number = whole (c .before .before .before .before .before .before .before .before .before .put4 .ensures .wrote) (length-bytes 4 (s .args .x)) in
-    let is =
-    c .before .before .hash-placed .ensures
-    ∙ numbered-is (s .args .p) (s .args .place) {key = s .args .key .now} {number = bytes 4 (s .args .x)} (c .before .before .before .before .before .before .form .given .1) refl number in
-    let long = length-commitment (s .args .p) (s .args .place) (opening (s .args .key .now) (s .args .x)) in
+    let o : List ℕ = opening (s .args .key .now) (s .args .x) in
+    let is = c .before .before .hash-placed .ensures ∙ numbered-is (s .args .p) (s .args .place) o (c .before .before .before .before .before .form .given .1) refl in
+    let long = length-commitment (s .args .p) (s .args .place) o in
     record { wrote = lent out at (at + 32 - at) is (omega arith) (omega arith); to = omega arith }
 
 pub put-commitment-spec : {M : Type 1} → statement M
@@ -46,15 +44,14 @@ put-commitment-spec =
     tie.close
     (tie.spec
     (λ c. search needs)
-    (λ c κs. search needs)
-    (λ c. search needs)
-    (λ c. search needs)
-    (λ c. search needs)
-    (λ c. search needs)
     (λ c. search needs)
     (λ c. search needs)
     (λ c κs. search needs)
     (λ c. search needs)
+    (λ c. search needs)
+    (λ c. search needs)
+    (λ c. search needs)
+    (λ c κs. search needs)
     (λ c. search needs)
     (λ c. search needs)
     (λ c. search needs)
