@@ -140,17 +140,22 @@ pub fn ballots(
     Ok(ballots)
 }
 
-fn openings_give(openings: &[Opening], commitments: &[Commitment]) -> bool {
-    openings.iter().zip(commitments).all(|(opening, due)| opening.commitment() == *due)
-}
-
 struct Judge<'a> {
     reader: Reader<'a>,
     judging: Judging,
     parameters: Parameters,
+    scheme: Scheme,
 }
 
 impl Judge<'_> {
+    /// Whether the openings give the commitments that are posted at these places.
+    fn give(&self, openings: &[Opening], places: &[Place], posted: &[Commitment]) -> bool {
+        let given = openings.iter().zip(places);
+        given
+            .map(|(opening, &place)| self.scheme.commitment(place, opening))
+            .eq(posted.iter().copied())
+    }
+
     fn below_modulus(&self, openings: &[Opening]) -> bool {
         openings.iter().all(|opening| opening.number < self.parameters.modulus)
     }
@@ -224,8 +229,9 @@ impl Judge<'_> {
         if let Some(seed) = seed {
             command.demand(side == drawn_side(ballot, seed), refusal::SIDE_DRAWN)?;
         }
+        let places = of_side(&Holder::Ballot { id: posted.id }.places(), side);
         let due = of_side(&posted.commitments, side);
-        command.demand(openings_give(&openings, &due), refusal::OPENING)?;
+        command.demand(self.give(&openings, &places, &due), refusal::OPENING)?;
         Ok((side, openings.map(|opening| opening.number)))
     }
 
@@ -243,10 +249,12 @@ impl Judge<'_> {
         let named = (command.number(1), command.number(2));
         let openings: [Opening; 3] = command.openings();
         let numbers = openings.map(|opening| opening.number);
-        let due = of_side(&entries[link.position as usize], side);
+        let position = link.position as usize;
+        let places = of_side(&Holder::entry(list, position).places(), side);
+        let due = of_side(&entries[position], side);
         command.demand(named == (list as u32, link.position), refusal::OPERAND)?;
         command.demand(self.below_modulus(&openings), refusal::NUMBER)?;
-        command.demand(openings_give(&openings, &due), refusal::OPENING)?;
+        command.demand(self.give(&openings, &places, &due), refusal::OPENING)?;
         let agree = halves_agree(modulus, side, ballot_numbers, numbers, link.t);
         command.demand(agree, refusal::HALVES)
     }
@@ -280,7 +288,8 @@ impl Judge<'_> {
             let openings: [Opening; 6] = command.openings();
             command.demand(named == (list as u32, position as u32), refusal::OPERAND)?;
             command.demand(self.below_modulus(&openings), refusal::NUMBER)?;
-            command.demand(openings_give(&openings, commitments), refusal::OPENING)?;
+            let places = Holder::entry(list, position).places();
+            command.demand(self.give(&openings, &places, commitments), refusal::OPENING)?;
             values.push(sum(self.parameters.modulus, &openings.map(|opening| opening.number)));
             let last = values.len() == votes.len();
             command.demand(!last || is_permutation_of(&values, votes), refusal::OPENED_LIST)?;
@@ -309,7 +318,8 @@ pub fn judge_by(edition: Edition, record: &[u8], judging: Judging) -> Result<Vec
     let mut reader = Reader::new(record);
     let parameters = parameters(&mut reader, edition)?;
     let ballots = ballots(&mut reader, &parameters, edition.copies)?;
-    let mut judge = Judge { reader, judging, parameters };
+    let scheme = edition.scheme(parameters.form);
+    let mut judge = Judge { reader, judging, parameters, scheme };
     let lists = judge.lists()?;
     let mask = judge.first_dice()?;
     let compared = lists_of(parameters.m, mask, true);

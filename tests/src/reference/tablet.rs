@@ -1,7 +1,7 @@
 //! The tablet: a vote split into six committed numbers, and the receipt.
 
 use super::sha3::sha3_224;
-use super::terms::{difference, refusal, Form, Opening};
+use super::terms::{difference, refusal, Form, Holder, Opening, Scheme};
 
 /// A vote w with its shares x and y and the first halves u1, u2, u3.
 #[derive(Clone, Copy, Debug, PartialEq, Eq)]
@@ -50,10 +50,10 @@ pub fn openings(numbers: [u32; 6], keys: &[u8]) -> [Opening; 6] {
 }
 
 /// Command 02.
-pub fn ballot_command(id: u32, openings: &[Opening; 6]) -> Vec<u8> {
+pub fn ballot_command(scheme: Scheme, id: u32, openings: &[Opening; 6]) -> Vec<u8> {
     let mut command = vec![0x02];
     command.extend(id.to_be_bytes());
-    openings.iter().for_each(|opening| command.extend(opening.commitment()));
+    command.extend(scheme.six(Holder::Ballot { id }, openings).as_flattened());
     command
 }
 
@@ -65,9 +65,9 @@ pub fn receipt(id: u32, command: &[u8]) -> [u8; 32] {
     receipt
 }
 
-/// Writes a ballot's command and its receipt, or answers 3, 18 or 10; the same in either form.
+/// Writes a ballot's command and its receipt, or answers 3, 18 or 10.
 pub fn tablet(
-    _form: Form,
+    form: Form,
     modulus: u32,
     id: u32,
     split: &SplitVote,
@@ -84,7 +84,7 @@ pub fn tablet(
     if split.given().iter().any(|&number| number >= modulus) {
         return Err(refusal::NUMBER);
     }
-    let command = ballot_command(id, &openings(split.six(modulus), keys));
+    let command = ballot_command(form.scheme(), id, &openings(split.six(modulus), keys));
     command_out.copy_from_slice(&command);
     receipt_out.copy_from_slice(&receipt(id, &command));
     Ok(())

@@ -37,20 +37,35 @@ pub const FORMER_MAX_BALLOTS: u32 = 1024;
 pub const MAX_M: u32 = 12;
 pub const DICE: usize = 30;
 
-/// What a record may be: n's limit, whether 0C may stand first, and whether copied ballots stand.
+/// What a record may be: n's limit, whether 0C may stand first, whether commitments behind it know
+/// their place, and whether copied ballots stand.
 #[derive(Clone, Copy, Debug, PartialEq, Eq)]
 pub struct Edition {
     pub most_ballots: u32,
     pub numbered: bool,
+    pub placed: bool,
     pub copies: bool,
 }
 
-pub const NOW: Edition = Edition { most_ballots: MAX_BALLOTS, numbered: true, copies: false };
-/// Before document 02's item 5.
+impl Edition {
+    /// What a commitment of a record of this form is made of.
+    pub fn scheme(self, form: Form) -> Scheme {
+        match self.placed {
+            true => form.scheme(),
+            false => Scheme::Bare,
+        }
+    }
+}
+
+pub const NOW: Edition =
+    Edition { most_ballots: MAX_BALLOTS, numbered: true, placed: true, copies: false };
+/// Without document 02's item 5.
 pub const COPIES_STAND: Edition = Edition { copies: true, ..NOW };
-/// Document 01's own, before document 02's items 3, 4 and 5.
+/// Before document 02's item 8.
+pub const UNPLACED: Edition = Edition { placed: false, ..NOW };
+/// Document 01's own, before document 02's items 3, 4, 5 and 8.
 pub const FORMER: Edition =
-    Edition { most_ballots: FORMER_MAX_BALLOTS, numbered: false, copies: true };
+    Edition { most_ballots: FORMER_MAX_BALLOTS, numbered: false, placed: false, copies: true };
 
 /// Which command stands first: 01, or 0C with the election's number.
 #[derive(Clone, Copy, Debug, PartialEq, Eq)]
@@ -73,6 +88,14 @@ impl Form {
         match self {
             Form::Unnumbered => 8,
             Form::Numbered(_) => 12,
+        }
+    }
+
+    /// What a commitment of such a record is made of.
+    pub fn scheme(self) -> Scheme {
+        match self {
+            Form::Unnumbered => Scheme::Bare,
+            Form::Numbered(election) => Scheme::Placed { election },
         }
     }
 }
@@ -160,9 +183,72 @@ impl Opening {
         bytes[32..].copy_from_slice(&self.number.to_be_bytes());
         bytes
     }
+}
 
-    pub fn commitment(&self) -> Commitment {
-        sha3_256(&self.to_bytes())
+/// What has six commitments: a ballot, by its id, or an entry of a list, by its position.
+#[derive(Clone, Copy, Debug, PartialEq, Eq)]
+pub enum Holder {
+    Ballot { id: u32 },
+    Entry { list: u8, position: u32 },
+}
+
+impl Holder {
+    pub fn entry(list: usize, position: usize) -> Self {
+        Holder::Entry { list: list as u8, position: position as u32 }
+    }
+
+    /// One of its places; slots are 0 to 5 in the order u1, v1, u2, v2, u3, v3.
+    pub fn slot(self, slot: u8) -> Place {
+        Place { holder: self, slot }
+    }
+
+    /// All six of them.
+    pub fn places(self) -> [Place; 6] {
+        [0, 1, 2, 3, 4, 5].map(|slot| self.slot(slot))
+    }
+}
+
+/// Where a commitment is posted.
+#[derive(Clone, Copy, Debug, PartialEq, Eq)]
+pub struct Place {
+    pub holder: Holder,
+    pub slot: u8,
+}
+
+impl Place {
+    /// Slot, list and id or position, as they are hashed.
+    fn to_bytes(self) -> [u8; 6] {
+        let (list, index) = match self.holder {
+            Holder::Ballot { id } => (255, id),
+            Holder::Entry { list, position } => (list, position),
+        };
+        let [a, b, c, d] = index.to_be_bytes();
+        [self.slot, list, a, b, c, d]
+    }
+}
+
+/// What a commitment is made of: the opening alone, or by document 02's item 8 the election's
+/// number and its place as well.
+#[derive(Clone, Copy, Debug, PartialEq, Eq)]
+pub enum Scheme {
+    Bare,
+    Placed { election: u32 },
+}
+
+impl Scheme {
+    pub fn commitment(self, place: Place, opening: &Opening) -> Commitment {
+        let mut bytes = opening.to_bytes().to_vec();
+        if let Scheme::Placed { election } = self {
+            bytes.extend(election.to_be_bytes());
+            bytes.extend(place.to_bytes());
+        }
+        sha3_256(&bytes)
+    }
+
+    /// The six of a ballot or entry.
+    pub fn six(self, holder: Holder, openings: &[Opening; 6]) -> [Commitment; 6] {
+        let places = holder.places();
+        std::array::from_fn(|slot| self.commitment(places[slot], &openings[slot]))
     }
 }
 

@@ -46,9 +46,9 @@ impl Inputs {
     /// Whether a ballot would have a commitment of an earlier one. All slices have their lengths.
     fn copied(&self) -> bool {
         let mut earlier = EarlierBallots::default();
-        let mut six = (0..self.parameters.ballots())
-            .map(|j| self.ballot_openings(j).map(|opening| opening.commitment()));
-        six.any(|six| earlier.copied_by(&six))
+        let scheme = self.parameters.form.scheme();
+        let six = |(j, &id)| scheme.six(Holder::Ballot { id }, &self.ballot_openings(j));
+        self.ids.iter().enumerate().map(six).any(|six| earlier.copied_by(&six))
     }
 
     fn split_vote(&self, ballot: usize) -> SplitVote {
@@ -119,6 +119,8 @@ impl Inputs {
 #[derive(Clone, Debug, PartialEq, Eq)]
 pub struct Secrets {
     pub parameters: Parameters,
+    /// What the commitments are made of: what the form says.
+    pub scheme: Scheme,
     pub ids: Vec<u32>,
     pub ballots: Vec<[Opening; 6]>,
     pub lists: Vec<Vec<[Opening; 6]>>,
@@ -133,6 +135,7 @@ impl Secrets {
         let parameters = inputs.parameters;
         Secrets {
             parameters,
+            scheme: parameters.form.scheme(),
             ids: inputs.ids.clone(),
             ballots: (0..parameters.ballots()).map(|j| inputs.ballot_openings(j)).collect(),
             lists: (0..parameters.lists()).map(|list| inputs.list_openings(list)).collect(),
@@ -154,12 +157,13 @@ impl Secrets {
     pub fn part_one(&self) -> Vec<u8> {
         let mut bytes = first_command(&self.parameters);
         for (id, ballot) in self.ids.iter().zip(&self.ballots) {
-            bytes.extend(ballot_command(*id, ballot));
+            bytes.extend(ballot_command(self.scheme, *id, ballot));
         }
         for (list, entries) in self.lists.iter().enumerate() {
             for (position, entry) in entries.iter().enumerate() {
                 put_place(&mut bytes, 0x03, list, position);
-                entry.iter().for_each(|opening| bytes.extend(opening.commitment()));
+                let six = self.scheme.six(Holder::entry(list, position), entry);
+                bytes.extend(six.as_flattened());
             }
         }
         bytes
