@@ -56,7 +56,7 @@ pub fn first_command(form: Form, n: u16) -> Vec<u8> {
     writer::first_command(&Parameters { form, modulus: 2, n: n.into(), m: 1 })
 }
 
-/// A record that starts with 01 with 0C and this number in its place.
+/// A record that starts with 01 with 0C and this number in its place; its commitments stay.
 pub fn numbered(record: &[u8], election: u32) -> Vec<u8> {
     assert_eq!(record[0], 0x01);
     [&[0x0C][..], &election.to_be_bytes(), &record[1..]].concat()
@@ -230,8 +230,18 @@ impl Layout {
         self.modulus() + 7 + 197 * j
     }
 
+    /// One of its six commitments.
+    pub fn ballot_commitment(&self, j: usize, slot: usize) -> usize {
+        self.ballot(j) + 5 + 32 * slot
+    }
+
     pub fn entry(&self, list: usize, position: usize) -> usize {
         self.ballot(self.n) + 196 * (list * self.n + position)
+    }
+
+    /// One of its six commitments.
+    pub fn entry_commitment(&self, list: usize, position: usize, slot: usize) -> usize {
+        self.entry(list, position) + 4 + 32 * slot
     }
 
     pub fn first_dice(&self) -> usize {

@@ -24,9 +24,9 @@ fn they_are_what_is_written() {
     }
 }
 
-/// How many boards of one form were stored before document 02's item 5, and the digest of all, one
-/// behind the other in the order of their names.
-fn stored_before(numbered: bool) -> (usize, String) {
+/// How many boards of one form there are, without those of document 02's item 5 with 01, and the
+/// digest of all, one behind the other in the order of their names.
+fn digest_of(numbered: bool) -> (usize, String) {
     let mut stored = stored().unwrap();
     stored.retain(|name, _| name.starts_with("numbered-") == numbered);
     stored.retain(|name, _| !OF_COPIES.contains(&name.as_str()));
@@ -40,17 +40,31 @@ fn stored_before(numbered: bool) -> (usize, String) {
 #[test]
 fn unnumbered_ones_keep_their_bytes() {
     let digest = "aa8ec772ac564efe6fc1ca77643f55b95306fc74d3ec577d9a64eab13134581b";
-    assert_eq!(stored_before(false), (15, digest.to_string()));
+    assert_eq!(digest_of(false), (15, digest.to_string()));
 }
 
-/// The same of those stored before item 5.
+/// The same of those of item 5.
+#[test]
+fn copies_keep_their_bytes() {
+    let stored = stored().unwrap();
+    let digests = OF_COPIES.map(|name| hex(&subject::sha3_256(&stored[name])));
+    assert_eq!(
+        digests,
+        [
+            "5e85d2a6014583d76c5d7901e3fd85c56338b744690f89a4a4ac45226a89786c",
+            "451b969d8784991f4a307a949bac78951119a2055b64f48126057eb8a0dc67a6"
+        ]
+    );
+}
+
+/// The same of those with 0C, which item 8 made anew.
 #[test]
 fn numbered_ones_keep_their_bytes() {
-    let digest = "ca644eadf7074634f969a00f2bf54927b8802480efe2e5ed42e9063894d7f72b";
-    assert_eq!(stored_before(true), (7, digest.to_string()));
+    let digest = "DIGEST_NUMBERED";
+    assert_eq!(digest_of(true), (9, digest.to_string()));
 }
 
-/// Their first commands, of every kind: two whole ones and one that is cut behind M.
+/// Their first commands, of every kind: whole ones and one that is cut behind M.
 #[test]
 fn first_commands_of_numbered_ones() {
     let stored = stored().unwrap();
@@ -62,6 +76,8 @@ fn first_commands_of_numbered_ones() {
     assert_eq!(first("one-ballot"), "0cffffffff00000002000101");
     assert_eq!(first("ranked"), "0c000000003b9aca00001701");
     assert_eq!(first("refused-1"), "0c0000000200000064");
+    assert_eq!(first("refused-13"), "0c0000000400000064000301");
+    assert_eq!(first("refused-21"), "0c0000000300000064000501");
 }
 
 /// `refused-N` is refused by rule N, all others are accepted, and the program reads each.
@@ -137,11 +153,27 @@ fn the_boards_with_copied_ballots() {
             assert_eq!(subject::judge(record, judging), Err(fault), "{judging:?}");
             assert!(judge_by(COPIES_STAND, record, judging).is_ok(), "{judging:?}");
         }
-        assert_eq!((page(record), teller_page(2, record)), (refused_21(), refused_21()));
-        assert_eq!(teller_page(0, record), refused_21());
+        assert_eq!((page(record), teller_page(2, record)), (refused(21), refused(21)));
+        assert_eq!(teller_page(0, record), refused(21));
     }
 }
 
-fn refused_21() -> String {
-    "REFUSED 21\n".to_string()
+/// The board of another election: with the number that its ballots and lists were made for it is a
+/// proof, but for what is drawn.
+#[test]
+fn the_board_of_another_election() {
+    let record = &stored().unwrap()["numbered-refused-13.board"];
+    let half = 12 + 197 * 3 + 196 * 6 + 35 + 10 * 3 + 31;
+    for judging in JUDGINGS {
+        let fault = Fault { number: 13, place: half };
+        assert_eq!(subject::judge(record, judging), Err(fault), "{judging:?}");
+    }
+    let mut other = record.clone();
+    other[4] = 3;
+    assert!(subject::judge(&other, Judging::Plain).is_ok());
+    assert_eq!((page(record), teller_page(2, record)), (refused(13), refused(13)));
+}
+
+fn refused(rule: u8) -> String {
+    format!("REFUSED {rule}\n")
 }

@@ -10,7 +10,7 @@ use std::path::{Path, PathBuf};
 use std::process::{Command, Output, Stdio};
 
 use paddockyear_tests::boards::copies::*;
-use paddockyear_tests::boards::damage::damaged;
+use paddockyear_tests::boards::damage::{damaged, Forgery};
 use paddockyear_tests::boards::samples::{promised, stored, with_votes, RANKED};
 use paddockyear_tests::boards::{first_command, form, honest, inputs, parameters, BOTH, FORMS};
 use paddockyear_tests::days::{every_day, public_holidays, runs, some_days, weekends, DAYS};
@@ -21,6 +21,7 @@ use paddockyear_tests::reference::page::{
     calendar_page, candidates_of, page, teller_page, LONGEST,
 };
 use paddockyear_tests::reference::terms::{Form, Parameters};
+use paddockyear_tests::reference::writer::Secrets;
 
 fn program(variable: &str, name: &str) -> PathBuf {
     let built = || Path::new(env!("CARGO_MANIFEST_DIR")).join("../target/bin").join(name);
@@ -179,21 +180,35 @@ fn longest_numbered_input() {
 fn copied_ballots() {
     let random = &mut Random::new(316);
     for (form, (from, slot)) in FORMS.into_iter().cycle().zip(pairs_of_places()) {
-        let mut inputs = inputs(random, Parameters { form, modulus: 100, n: 4, m: 1 });
-        let from = Slot { ballot: random.index(3), slot: from };
-        copy_commitment(&mut inputs, from, Slot { ballot: 3, slot });
-        let record = record_of(random, &inputs, Judging::Drawn);
+        let honest = Copied::none(inputs(random, Parameters { form, modulus: 100, n: 4, m: 1 }));
+        let copied = honest.and((random.index(3), from), (3, slot));
+        let record = copied.posted(random, Judging::Drawn);
         assert_eq!(printed(&record), "REFUSED 21\n");
         for candidates in ["0", "2", "10"] {
             assert_eq!(told(candidates, &record), "REFUSED 21\n");
         }
     }
-    let mut inside = inputs(random, Parameters::numbered(5, 100, 2, 1));
-    let opening = inside.ballot_openings(1)[0];
-    put_ballot(&mut inside, 1, [opening; 6]);
-    let record = record_of(random, &inside, Judging::Drawn);
-    assert!(printed(&record).starts_with("ACCEPTED\nELECTION 5\n"));
-    check(&record);
+    for form in [Form::Unnumbered, Form::Numbered(5)] {
+        let inside = inputs(random, Parameters { form, modulus: 100, n: 2, m: 1 });
+        let inside = Copied::none(inside).and_inside(1, 0).openings();
+        let record = record_of(random, &inside, Judging::Drawn);
+        assert!(printed(&record).starts_with("ACCEPTED\n"));
+        check(&record);
+    }
+}
+
+/// Boards of which the ballots and lists are those of another election, or of the other form.
+#[test]
+fn commitments_of_another_election() {
+    let random = &mut Random::new(317);
+    let forms = [Form::Unnumbered, Form::Numbered(5), Form::Numbered(6)];
+    for (form, other) in forms.into_iter().flat_map(|form| forms.map(|other| (form, other))) {
+        let inputs = inputs(random, Parameters { form, modulus: 100, n: 3, m: 1 });
+        let secrets = Secrets { scheme: other.scheme(), ..Secrets::new(&inputs) };
+        let record = Forgery::new(secrets, random.mask(1)).record(random, Judging::Drawn);
+        check(&record);
+        assert_eq!(printed(&record) == "REFUSED 13\n", form != other, "{other:?} behind {form:?}");
+    }
 }
 
 /// What can't be read, as a folder, gets a line on standard error and no verdict.

@@ -3,7 +3,7 @@
 //! `linked` through the reference alone.
 
 use paddockyear_tests::boards::calls::election::ElectionCall;
-use paddockyear_tests::boards::copies::{put_ballot, record_of};
+use paddockyear_tests::boards::copies::{put_ballot, record_of, Copied};
 use paddockyear_tests::boards::{inputs, still_inputs, Layout, BOTH, FORMS};
 use paddockyear_tests::hex;
 use paddockyear_tests::random::Random;
@@ -174,30 +174,52 @@ fn byte_behind() {
     }
 }
 
+/// Vote, numbers and keys of the second ballot are the first's.
+fn with_equal_openings(random: &mut Random, parameters: Parameters) -> Inputs {
+    let mut inputs = inputs(random, parameters);
+    inputs.votes[1] = inputs.votes[0];
+    inputs.numbers.copy_within(0..5, 5);
+    inputs.keys.copy_within(0..192, 192);
+    inputs
+}
+
 /// They stood before document 02's item 5. Servers refuse the inputs, and the judge the record that
 /// servers wrote then; receipts are as printed.
 #[test]
 fn equal_commitments() {
     let random = &mut Random::new(4);
-    for parameters in both(100, 2, 1) {
-        let mut inputs = inputs(random, parameters);
-        inputs.votes[1] = inputs.votes[0];
-        inputs.numbers.copy_within(0..5, 5);
-        inputs.keys.copy_within(0..192, 192);
-        answered_by_servers(random, &inputs, Err(21));
-        let record = record_of(random, &inputs, Judging::Drawn);
-        let [first, second] = [0, 1].map(|j| Layout::new(&parameters).ballot(j));
-        assert_eq!(record[first + 5..second], record[second + 5..second + 197]);
-        refused(&record, 21, second);
-        for (id, place) in inputs.ids.iter().zip([first, second]) {
-            let printed = receipt(*id, &record[place..][..197]);
-            assert_eq!(check_receipt(&record, &printed), Ok(Posted::AsPrinted));
-            assert_eq!(look_up(&record, &printed), Ok(Posted::AsPrinted));
-        }
-        for judging in JUDGINGS {
-            let before = judge_by(COPIES_STAND, &record, judging);
-            assert_eq!(before, Ok(sorted(&inputs.votes)), "{judging:?}");
-        }
+    let inputs = with_equal_openings(random, of(100, 2, 1));
+    answered_by_servers(random, &inputs, Err(21));
+    let record = record_of(random, &inputs, Judging::Drawn);
+    check_copied(&record, &inputs);
+    for judging in JUDGINGS {
+        let before = judge_by(COPIES_STAND, &record, judging);
+        assert_eq!(before, Ok(sorted(&inputs.votes)), "{judging:?}");
+    }
+}
+
+/// With 0C places tell equal openings apart, by document 02's item 8; what was posted once is
+/// refused where it is posted again.
+#[test]
+fn equal_openings_and_equal_commitments() {
+    let random = &mut Random::new(10);
+    let parameters = both(100, 2, 1)[1];
+    let equal = with_equal_openings(random, parameters);
+    answered_by_servers(random, &equal, Ok(()));
+    accepted(&record(random, &equal), &equal.votes);
+    let copied = Copied::none(inputs(random, parameters)).and_ballot(0, 1);
+    check_copied(&copied.posted(random, Judging::Drawn), &copied.inputs);
+}
+
+/// The second ballot's commitments are the first's.
+fn check_copied(record: &[u8], inputs: &Inputs) {
+    let [first, second] = [0, 1].map(|j| Layout::new(&inputs.parameters).ballot(j));
+    assert_eq!(record[first + 5..second], record[second + 5..second + 197]);
+    refused(record, 21, second);
+    for (id, place) in inputs.ids.iter().zip([first, second]) {
+        let printed = receipt(*id, &record[place..][..197]);
+        assert_eq!(check_receipt(record, &printed), Ok(Posted::AsPrinted));
+        assert_eq!(look_up(record, &printed), Ok(Posted::AsPrinted));
     }
 }
 

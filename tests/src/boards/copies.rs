@@ -1,10 +1,12 @@
-//! Copied ballots: inputs of which one ballot has a commitment of another, or has one twice, and
-//! records that end behind their ballots, with any commitments.
+//! Copied ballots: inputs of which one ballot has an opening of another, or has one twice, boards on
+//! which a commitment is posted again, and records that end behind their ballots, with any
+//! commitments. With 01 equal openings make equal commitments; with 0C a place tells them apart.
 
 use super::damage::Forgery;
+use super::Layout;
 use crate::random::Random;
-use crate::reference::judge::Judging;
-use crate::reference::terms::{sum, Commitment, Form, Opening, Parameters};
+use crate::reference::judge::{Fault, Judging};
+use crate::reference::terms::{refusal, sorted, sum, Commitment, Form, Opening, Parameters};
 use crate::reference::writer::{first_command, Inputs, Secrets};
 
 /// One of a ballot's six places, in the order u1, v1, u2, v2, u3, v3.
@@ -43,8 +45,8 @@ pub fn put_opening(inputs: &mut Inputs, to: Slot, opening: Opening) {
     put_ballot(inputs, to.ballot, six);
 }
 
-/// Makes one commitment equal to another, in the same ballot or in two.
-pub fn copy_commitment(inputs: &mut Inputs, from: Slot, to: Slot) {
+/// Makes one opening equal to another, in the same ballot or in two.
+pub fn copy_opening(inputs: &mut Inputs, from: Slot, to: Slot) {
     let opening = inputs.ballot_openings(from.ballot)[from.slot];
     put_opening(inputs, to, opening);
 }
@@ -53,6 +55,72 @@ pub fn copy_commitment(inputs: &mut Inputs, from: Slot, to: Slot) {
 pub fn copy_ballot(inputs: &mut Inputs, from: usize, to: usize) {
     let six = inputs.ballot_openings(from);
     put_ballot(inputs, to, six);
+}
+
+/// An honest board, and copies of its ballots' commitments, one after the other.
+#[derive(Clone)]
+pub struct Copied {
+    pub inputs: Inputs,
+    pub copies: Vec<(Slot, Slot)>,
+}
+
+impl Copied {
+    pub fn none(inputs: Inputs) -> Self {
+        Copied { inputs, copies: Vec::new() }
+    }
+
+    /// One commitment, from a ballot and slot to another.
+    pub fn and(mut self, from: (usize, usize), to: (usize, usize)) -> Self {
+        let slot = |(ballot, slot)| Slot { ballot, slot };
+        self.copies.push((slot(from), slot(to)));
+        self
+    }
+
+    /// All six of a ballot.
+    pub fn and_ballot(self, from: usize, to: usize) -> Self {
+        (0..6).fold(self, |copied, slot| copied.and((from, slot), (to, slot)))
+    }
+
+    /// One at all six places of its ballot.
+    pub fn and_inside(self, ballot: usize, slot: usize) -> Self {
+        (0..6).fold(self, |copied, to| copied.and((ballot, slot), (ballot, to)))
+    }
+
+    /// The inputs with the openings copied.
+    pub fn openings(&self) -> Inputs {
+        let mut inputs = self.inputs.clone();
+        self.copies.iter().for_each(|&(from, to)| copy_opening(&mut inputs, from, to));
+        inputs
+    }
+
+    /// The honest board with the commitments copied as they are posted: whatever is opened of them
+    /// is what their places had.
+    pub fn posted(&self, random: &mut Random, judging: Judging) -> Vec<u8> {
+        let secrets = Secrets::new(&self.inputs);
+        let mut six: Vec<_> = (0..self.inputs.parameters.ballots())
+            .map(|ballot| secrets.ballot_commitments(ballot))
+            .collect();
+        let mut forgery = Forgery::new(secrets, random.mask(self.inputs.parameters.m));
+        for (from, to) in &self.copies {
+            six[to.ballot][to.slot] = six[from.ballot][from.slot];
+            let at = forgery.layout.ballot_commitment(to.ballot, to.slot);
+            forgery.set(at, &six[to.ballot][to.slot]);
+        }
+        forgery.record(random, judging)
+    }
+
+    /// What is found on that board where copies stand: 13 at the first ballot of which a changed
+    /// commitment is opened, if there is one.
+    pub fn found_posted(&self, record: &[u8]) -> Result<Vec<u32>, Fault> {
+        let layout = Layout::new(&self.inputs.parameters);
+        let half = |ballot| layout.ballot_half(ballot);
+        let opened = |to: &&Slot| usize::from(record[half(to.ballot) + 3]) == to.slot % 2;
+        let changed = self.copies.iter().filter(|(from, to)| from != to).map(|(_, to)| to);
+        match changed.filter(opened).map(|to| half(to.ballot)).min() {
+            Some(place) => Err(Fault { number: refusal::OPENING, place }),
+            None => Ok(sorted(&self.inputs.votes)),
+        }
+    }
 }
 
 /// The record that servers would write who do not mind copies.
@@ -80,7 +148,7 @@ pub fn commitments(random: &mut Random, ballots: usize) -> Vec<[Commitment; 6]> 
     (0..ballots).map(|_| std::array::from_fn(|_| commitment())).collect()
 }
 
-/// Lets every entry of every list show the commitments of the ballot that it comes from: nothing is
+/// Lets every entry of every list have the openings of the ballot that it comes from: nothing is
 /// added, and first halves and keys are the ballot's.
 pub fn mirror_ballots(inputs: &mut Inputs) {
     let Parameters { n, m, .. } = inputs.parameters;

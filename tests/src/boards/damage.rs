@@ -11,7 +11,7 @@ use crate::reference::sha3::sha3_224;
 use crate::reference::terms::{
     difference, lists_of, refusal, sum, Edition, Form, Opening, Parameters, MAX_BALLOTS, NOW,
 };
-use crate::reference::writer::Secrets;
+use crate::reference::writer::{Inputs, Secrets};
 
 /// A board in the making: what the servers know, and what is done to the bytes.
 #[derive(Clone)]
@@ -271,20 +271,46 @@ pub fn damaged_by(
     (n, m): (u32, u32),
     judging: Judging,
 ) -> (Vec<u8>, Fault) {
-    let parameters = parameters_by(edition, random, n, m);
-    let secrets = Secrets::new(&inputs(random, parameters));
-    let target = Target::any(random, &parameters);
-    let mut forgery = Forgery::new(secrets, random.mask(parameters.m));
-    forgery.most_ballots = edition.most_ballots;
-    let mut ways = breaches_by(edition, parameters.form, judging);
-    ways.retain(|breach| breach.possible(&parameters));
-    let mut chosen = vec![any_breach(random, &ways)];
-    let other = any_breach(random, &ways);
-    if chosen[0].goes_with(&other) && random.below(2) == 0 {
-        chosen.push(other);
+    Damaged::any(edition, random, (n, m), judging).record(random, judging)
+}
+
+/// Inputs, and one or two ways of breaking a rule on their board.
+pub struct Damaged {
+    pub inputs: Inputs,
+    mask: u32,
+    most_ballots: u32,
+    target: Target,
+    breaches: Vec<Breach>,
+}
+
+impl Damaged {
+    pub fn any(
+        edition: Edition,
+        random: &mut Random,
+        (n, m): (u32, u32),
+        judging: Judging,
+    ) -> Self {
+        let parameters = parameters_by(edition, random, n, m);
+        let inputs = inputs(random, parameters);
+        let target = Target::any(random, &parameters);
+        let mask = random.mask(parameters.m);
+        let mut ways = breaches_by(edition, parameters.form, judging);
+        ways.retain(|breach| breach.possible(&parameters));
+        let mut breaches = vec![any_breach(random, &ways)];
+        let other = any_breach(random, &ways);
+        if breaches[0].goes_with(&other) && random.below(2) == 0 {
+            breaches.push(other);
+        }
+        Damaged { inputs, mask, most_ballots: edition.most_ballots, target, breaches }
     }
-    let fault = breach(&mut forgery, &target, &chosen);
-    (forgery.record(random, judging), fault)
+
+    /// Its record, and the first of its faults.
+    pub fn record(&self, random: &mut Random, judging: Judging) -> (Vec<u8>, Fault) {
+        let mut forgery = Forgery::new(Secrets::new(&self.inputs), self.mask);
+        forgery.most_ballots = self.most_ballots;
+        let fault = breach(&mut forgery, &self.target, &self.breaches);
+        (forgery.record(random, judging), fault)
+    }
 }
 
 /// Any rule that one of these ways breaks, and any of those that do.
@@ -408,8 +434,8 @@ fn copies() -> Vec<Row> {
 
 /// Posts one ballot's commitment at a place of another's.
 fn copy(forgery: &mut Forgery, from: (usize, usize), (ballot, slot): (usize, usize)) {
-    let commitment = forgery.secrets.ballots[from.0][from.1].commitment();
-    forgery.set(forgery.layout.ballot(ballot) + 5 + 32 * slot, &commitment);
+    let commitment = forgery.secrets.ballot_commitments(from.0)[from.1];
+    forgery.set(forgery.layout.ballot_commitment(ballot, slot), &commitment);
 }
 
 /// 04 and 06.

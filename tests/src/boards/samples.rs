@@ -5,14 +5,14 @@ use std::collections::BTreeMap;
 use std::path::Path;
 use std::{fs, io};
 
-use super::copies::{copy_ballot, copy_commitment, put_ballot, record_of, Slot};
-use super::damage::damaged_by;
+use super::copies::{copy_ballot, copy_opening, put_ballot, record_of, Copied, Slot};
+use super::damage::{damaged_by, Forgery};
 use super::{board, honest, inputs, Board, Layout, BOTH};
 use crate::random::Random;
 use crate::reference::judge::Judging;
 use crate::reference::page::LONGEST;
-use crate::reference::terms::{Edition, Form, Parameters, COPIES_STAND, FORMER};
-use crate::reference::writer::Inputs;
+use crate::reference::terms::{Edition, Form, Parameters, Scheme, COPIES_STAND, FORMER};
+use crate::reference::writer::{Inputs, Secrets};
 
 /// The rules of which a refused board is written.
 const RULES: [u8; 9] = [1, 5, 8, 9, 12, 13, 14, 16, 17];
@@ -24,9 +24,9 @@ pub const RANKED: [u32; 23] = [
     213,
 ];
 
-/// The boards of document 02's item 5; all others were stored before it.
-pub const OF_COPIES: [&str; 3] =
-    ["equal-inside.board", "numbered-refused-21.board", "refused-21.board"];
+/// The boards with 01 of document 02's item 5; all others with 01 were stored before it. Those with
+/// 0C were made anew by item 8.
+pub const OF_COPIES: [&str; 2] = ["equal-inside.board", "refused-21.board"];
 
 /// Names and bytes.
 pub fn files() -> Vec<(String, Vec<u8>)> {
@@ -72,27 +72,57 @@ fn numbered_files() -> Vec<(String, Vec<u8>)> {
         ("numbered-refused-2.board", again_where_dice_are_due(random)),
         ("numbered-refused-8.board", refused_by(COPIES_STAND, random, 8)),
         ("numbered-refused-14.board", refused_by(COPIES_STAND, random, 14)),
+        ("numbered-refused-13.board", of_another_election(random)),
+        ("numbered-refused-21.board", copied_where_none_is_opened(random)),
     ];
     accepted.into_iter().chain(refused.map(|(name, bytes)| (name.to_string(), bytes))).collect()
 }
 
-/// One commitment at all six places of a ballot and another at two of the next; a commitment of the
-/// second ballot at another place of the last; a ballot cast again. Of seeds of their own, so that
-/// the others stay; but for their copies the refused ones are proofs.
+/// One commitment at all six places of a ballot and another at two of the next; a ballot cast again,
+/// which but for that is a proof. Of seeds of their own, so that the others stay.
 fn files_of_copies() -> Vec<(String, Vec<u8>)> {
     let random = &mut Random::new(2028);
     let mut inside = inputs(random, Parameters::unnumbered(100, 4, 1));
     let opening = inside.ballot_openings(1)[0];
     put_ballot(&mut inside, 1, [opening; 6]);
-    copy_commitment(&mut inside, Slot { ballot: 2, slot: 0 }, Slot { ballot: 2, slot: 5 });
+    copy_opening(&mut inside, Slot { ballot: 2, slot: 0 }, Slot { ballot: 2, slot: 5 });
     let inside = written(&board(random, &inside, BOTH));
-    let mut place = inputs(random, Parameters::numbered(3, 100, 5, 1));
-    copy_commitment(&mut place, Slot { ballot: 1, slot: 5 }, Slot { ballot: 4, slot: 0 });
-    let place = record_of(random, &place, Judging::Drawn);
+    pass_over(random);
     let mut again = inputs(random, Parameters::unnumbered(100, 4, 1));
     copy_ballot(&mut again, 0, 2);
     let again = record_of(random, &again, Judging::Drawn);
-    OF_COPIES.map(str::to_string).into_iter().zip([inside, place, again]).collect()
+    OF_COPIES.map(str::to_string).into_iter().zip([inside, again]).collect()
+}
+
+/// The board that was written here before document 02's item 8, as it was: the dice of the next
+/// depend on those thrown for it.
+fn pass_over(random: &mut Random) {
+    let mut place = inputs(random, Parameters::numbered(3, 100, 5, 1));
+    copy_opening(&mut place, Slot { ballot: 1, slot: 5 }, Slot { ballot: 4, slot: 0 });
+    let secrets = Secrets { scheme: Scheme::Bare, ..Secrets::new(&place) };
+    let mask = random.mask(1);
+    Forgery::new(secrets, mask).record(random, Judging::Drawn);
+}
+
+/// The ballots and lists of another election of the evening.
+fn of_another_election(random: &mut Random) -> Vec<u8> {
+    let inputs = inputs(random, Parameters::numbered(4, 100, 3, 1));
+    let secrets = Secrets { scheme: Form::Numbered(3).scheme(), ..Secrets::new(&inputs) };
+    let mask = random.mask(1);
+    Forgery::new(secrets, mask).record(random, Judging::Drawn)
+}
+
+/// A commitment of the second ballot at a place of the last that is not opened: but for the copy it
+/// is a proof.
+fn copied_where_none_is_opened(random: &mut Random) -> Vec<u8> {
+    let honest = Copied::none(inputs(random, Parameters::numbered(3, 100, 5, 1)));
+    let copied = honest.and((1, 5), (4, 0));
+    loop {
+        let record = copied.posted(random, Judging::Drawn);
+        if copied.found_posted(&record).is_ok() {
+            return record;
+        }
+    }
 }
 
 /// A board with 0C for 04.

@@ -153,6 +153,16 @@ impl Secrets {
         difference(modulus, firsts(&self.ballots[ballot]), firsts(entry))
     }
 
+    /// A ballot's commitments.
+    pub fn ballot_commitments(&self, ballot: usize) -> [Commitment; 6] {
+        self.scheme.six(Holder::Ballot { id: self.ids[ballot] }, &self.ballots[ballot])
+    }
+
+    /// An entry's commitments.
+    pub fn entry_commitments(&self, list: usize, position: usize) -> [Commitment; 6] {
+        self.scheme.six(Holder::entry(list, position), &self.lists[list][position])
+    }
+
     /// The first command to 03.
     pub fn part_one(&self) -> Vec<u8> {
         let mut bytes = first_command(&self.parameters);
@@ -160,10 +170,9 @@ impl Secrets {
             bytes.extend(ballot_command(self.scheme, *id, ballot));
         }
         for (list, entries) in self.lists.iter().enumerate() {
-            for (position, entry) in entries.iter().enumerate() {
+            for position in 0..entries.len() {
                 put_place(&mut bytes, 0x03, list, position);
-                let six = self.scheme.six(Holder::entry(list, position), entry);
-                bytes.extend(six.as_flattened());
+                bytes.extend(self.entry_commitments(list, position).as_flattened());
             }
         }
         bytes

@@ -306,7 +306,9 @@ fn refusals_of_each_way() {
     for (draws, due) in ALL_DRAWS.into_iter().zip(due) {
         for shape in SHAPES {
             let call = ElectionCall::honest(random, shape, draws);
-            let met: BTreeSet<u8> = call.misuses().iter().map(|misuse| misuse.number).collect();
+            let mut met: BTreeSet<u8> = call.misuses().iter().map(|misuse| misuse.number).collect();
+            let numbered = shape.form != Form::Unnumbered;
+            assert_eq!(met.insert(21), numbered, "with 0C no inputs are copies");
             assert!(met.iter().eq(due), "{draws:?}");
         }
         let mut answers = BTreeSet::new();
@@ -320,10 +322,12 @@ fn refusals_of_each_way() {
     }
 }
 
-/// Every draw in both forms answers `number`, 0 for held and accepted.
+/// Every draw answers `number` with 01, 0 for held and accepted, and 0 with 0C, where places tell
+/// equal openings apart.
 #[track_caller]
 fn check_copies(random: &mut Random, inputs: &Inputs, number: u8) {
     for (shape, draws) in ways() {
+        let number = if shape.form == Form::Unnumbered { number } else { 0 };
         let parameters = Parameters { form: shape.form, ..inputs.parameters };
         let call = ElectionCall::of(random, Inputs { parameters, ..inputs.clone() }, draws);
         assert_eq!(answer(call.clone()), number, "{draws:?} {:?}", shape.form);
@@ -345,7 +349,7 @@ fn copied_ballots() {
         let mut inputs = any_inputs(random, 3);
         let (earlier, ballot) = random.pick(&[(0, 1), (0, 2), (1, 2)]);
         let from = Slot { ballot: earlier, slot: from };
-        copy_commitment(&mut inputs, from, Slot { ballot, slot });
+        copy_opening(&mut inputs, from, Slot { ballot, slot });
         check_copies(random, &inputs, 21);
     }
     for (earlier, later) in [(0, 1), (0, 4), (2, 3), (3, 4)] {
@@ -378,7 +382,8 @@ fn copied_ballots_come_last() {
         let mut call = ElectionCall::honest(random, shape, NEITHER);
         copy_ballot(&mut call.inputs, 0, 2);
         change(&mut call);
-        assert_eq!(answer(call), number, "{:?}", shape.form);
+        let stands = number == 21 && shape.form != Form::Unnumbered;
+        assert_eq!(answer(call), if stands { 0 } else { number }, "{:?}", shape.form);
     }
 }
 
@@ -389,7 +394,7 @@ fn equal_commitments_that_stand() {
     for (ballot, (first, second)) in pairs_inside().enumerate().map(|(k, pair)| (k % 3, pair)) {
         let mut inputs = any_inputs(random, 3);
         let from = Slot { ballot, slot: first };
-        copy_commitment(&mut inputs, from, Slot { ballot, slot: second });
+        copy_opening(&mut inputs, from, Slot { ballot, slot: second });
         check_copies(random, &inputs, 0);
     }
     let mut inputs = any_inputs(random, 3);
@@ -428,7 +433,10 @@ fn copied_ballots_of_many_ballots() {
     for (n, earlier, draws) in [(257, 255, NEITHER), (4096, 0, BOTH)] {
         let mut inputs = inputs(random, Parameters::unnumbered(u32::MAX, n, 1));
         let from = Slot { ballot: earlier, slot: 4 };
-        copy_commitment(&mut inputs, from, Slot { ballot: n as usize - 1, slot: 1 });
-        assert_eq!(answer(ElectionCall::of(random, inputs, draws)), 21);
+        copy_opening(&mut inputs, from, Slot { ballot: n as usize - 1, slot: 1 });
+        for (form, number) in FORMS.into_iter().zip([21, 0]) {
+            inputs.parameters.form = form;
+            assert_eq!(answer(ElectionCall::of(random, inputs.clone(), draws)), number);
+        }
     }
 }

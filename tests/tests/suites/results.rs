@@ -1,5 +1,6 @@
 //! What the receipt check, the announced votes and the tally answer and write. Whatever record
-//! starts with 01, the same with 0C gets the same answer.
+//! starts with 01, the receipt check answers the same with 0C in its place; votes are not announced
+//! then, since the commitments are those of the other form.
 
 use std::collections::BTreeSet;
 
@@ -8,7 +9,7 @@ use paddockyear_tests::boards::copies::*;
 use paddockyear_tests::boards::damage::{breach, breaches, damaged, Forgery, Target};
 use paddockyear_tests::boards::*;
 use paddockyear_tests::random::Random;
-use paddockyear_tests::reference::judge::Judging;
+use paddockyear_tests::reference::judge::{judge, Judging};
 use paddockyear_tests::reference::receipt::Posted;
 use paddockyear_tests::reference::tablet::receipt;
 use paddockyear_tests::reference::terms::{sorted, Form, Parameters};
@@ -34,8 +35,11 @@ fn announced_votes(record: &[u8], out: &mut [u32]) -> Result<(), u8> {
     let mut again = out.to_vec();
     let answer = subject::announced_votes(record, out);
     if let Some(twin) = twin(record) {
-        assert_eq!(subject::announced_votes(&twin, &mut again), answer);
-        assert_eq!(again, out);
+        let before = again.clone();
+        let fault = judge(&twin, Judging::Plain).unwrap_err();
+        assert!(answer.map_or_else(|number| number, |()| 13) == fault.number || fault.number == 13);
+        assert_eq!(subject::announced_votes(&twin, &mut again), Err(fault.number));
+        assert_eq!(again, before);
     }
     answer
 }
@@ -167,7 +171,8 @@ fn receipts_among_many_ballots() {
     }
 }
 
-/// Receipts say nothing of the form: those of one record are the other's, whatever its number.
+/// Receipts are of the command's bytes alone: those of one record are the other's, whatever its
+/// number.
 #[test]
 fn receipts_of_both_forms() {
     let board = honest(&mut Random::new(50), SHAPE, NEITHER);
@@ -200,9 +205,8 @@ fn receipts_of_both_forms() {
 fn receipts_of_copied_ballots() {
     let random = &mut Random::new(51);
     for (earlier, later) in [(0, 1), (0, 4), (1, 3), (3, 4)] {
-        let mut inputs = inputs(random, SHAPE);
-        copy_ballot(&mut inputs, earlier, later);
-        let record = record_of(random, &inputs, Judging::Plain);
+        let copied = Copied::none(inputs(random, SHAPE)).and_ballot(earlier, later);
+        let (record, inputs) = (copied.posted(random, Judging::Plain), copied.inputs);
         for (j, &id) in inputs.ids.iter().enumerate() {
             let printed = receipt(id, ballot(&record, j));
             assert_eq!(check_receipt(&record, &printed), Ok(Posted::AsPrinted));
@@ -238,7 +242,11 @@ fn receipts_of_copies_and_ids_that_fall() {
 
 #[test]
 fn announced() {
-    let board = honest(&mut Random::new(43), SHAPE, NEITHER);
+    FORMS.iter().for_each(|&form| check_announced(Parameters { form, ..SHAPE }));
+}
+
+fn check_announced(shape: Parameters) {
+    let board = honest(&mut Random::new(43), shape, NEITHER);
     let mut record = board.record();
     let mut out = [77; 6];
     assert_eq!(announced_votes(&record, &mut out[..5]), Ok(()));
@@ -274,40 +282,44 @@ fn announced_by_boards_of_any_shape() {
 #[test]
 fn announced_by_many_ballots() {
     let random = &mut Random::new(85);
-    let board = honest(random, Parameters::unnumbered(u32::MAX, 4096, 1), NEITHER);
-    let record = board.record();
-    let mut out = vec![77; 4097];
-    for length in [1024, 4095, 4097] {
-        assert_eq!(announced_votes(&record, &mut out[..length]), Err(18));
+    for form in FORMS {
+        let board = honest(random, Parameters { form, modulus: u32::MAX, n: 4096, m: 1 }, NEITHER);
+        let record = board.record();
+        let mut out = vec![77; 4097];
+        for length in [1024, 4095, 4097] {
+            assert_eq!(announced_votes(&record, &mut out[..length]), Err(18));
+        }
+        assert_eq!(out, [77; 4097]);
+        assert_eq!(announced_votes(&record, &mut out[..4096]), Ok(()));
+        assert_eq!(out[..4096], sorted(&board.inputs.votes));
     }
-    assert_eq!(out, [77; 4097]);
-    assert_eq!(announced_votes(&record, &mut out[..4096]), Ok(()));
-    assert_eq!(out[..4096], sorted(&board.inputs.votes));
 }
 
 /// A board with a copied ballot announces nothing; 21 comes before 18.
 #[test]
 fn announced_by_boards_with_copies() {
     let random = &mut Random::new(53);
-    for (from, slot) in pairs_of_places() {
-        let mut inputs = inputs(random, SHAPE);
+    for (form, (from, slot)) in
+        FORMS.into_iter().flat_map(|f| pairs_of_places().map(move |p| (f, p)))
+    {
+        let shape = Parameters { form, ..SHAPE };
         let (earlier, ballot) = random.pick(&[(0, 1), (0, 4), (2, 3), (3, 4)]);
-        let from = Slot { ballot: earlier, slot: from };
-        copy_commitment(&mut inputs, from, Slot { ballot, slot });
-        let record = record_of(random, &inputs, Judging::Plain);
+        let copied = Copied::none(inputs(random, shape)).and((earlier, from), (ballot, slot));
+        let record = copied.posted(random, Judging::Plain);
         for length in [5, 4, 6, 0] {
             let mut out = vec![77; length];
             assert_eq!(announced_votes(&record, &mut out), Err(21));
             assert_eq!(out, vec![77; length]);
         }
     }
-    let mut inputs = inputs(random, SHAPE);
-    let opening = inputs.ballot_openings(2)[3];
-    put_ballot(&mut inputs, 2, [opening; 6]);
-    let record = record_of(random, &inputs, Judging::Plain);
-    let mut out = [77; 5];
-    assert_eq!(announced_votes(&record, &mut out), Ok(()));
-    assert_eq!(out[..], sorted(&inputs.votes));
+    for form in FORMS {
+        let inside = Copied::none(inputs(random, Parameters { form, ..SHAPE })).and_inside(2, 3);
+        let openings = inside.openings();
+        let record = record_of(random, &openings, Judging::Plain);
+        let mut out = [77; 5];
+        assert_eq!(announced_votes(&record, &mut out), Ok(()));
+        assert_eq!(out[..], sorted(&openings.votes));
+    }
 }
 
 /// The plain judge's number comes before 18.

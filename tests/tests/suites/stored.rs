@@ -6,16 +6,17 @@
 use std::collections::BTreeSet;
 
 use crate::subject::judge;
-use paddockyear_tests::boards::copies::{copy_ballot, copy_commitment, record_of, Slot};
+use paddockyear_tests::boards::copies::{record_of, Copied};
 use paddockyear_tests::boards::damage::{breach, breaches_by, damaged_by, Breach, Forgery, Target};
 use paddockyear_tests::boards::samples::{promised, stored};
 use paddockyear_tests::boards::{honest, inputs, Layout, BOTH, ELECTIONS, FORMS};
 use paddockyear_tests::random::Random;
 use paddockyear_tests::reference::judge::{judge_by, Fault, Judging, JUDGINGS};
 use paddockyear_tests::reference::terms::{
-    sorted, Edition, Form, Parameters, COPIES_STAND, FORMER, FORMER_MAX_BALLOTS, MAX_BALLOTS, NOW,
+    sorted, Edition, Form, Parameters, Scheme, COPIES_STAND, FORMER, FORMER_MAX_BALLOTS,
+    MAX_BALLOTS, NOW, UNPLACED,
 };
-use paddockyear_tests::reference::writer::{Inputs, Secrets};
+use paddockyear_tests::reference::writer::Secrets;
 
 /// The verdict by the former edition, but for this limit on n.
 fn judge_within(limit: u32, record: &[u8], judging: Judging) -> Result<Vec<u32>, Fault> {
@@ -170,16 +171,26 @@ fn above_the_former_limit_of_many_ballots() {
 }
 
 /// The former verdict on a board with copies and no other fault, and the one since: the fault lies
-/// in the copying ballot.
-fn refused_since(random: &mut Random, inputs: &Inputs, ballot: usize) {
-    let votes = Ok(sorted(&inputs.votes));
-    let place = Layout::new(&inputs.parameters).ballot(ballot);
+/// in the copying ballot. With 0C the copies are posted, and what is opened of them was refused.
+fn refused_since(random: &mut Random, copied: &Copied, ballot: usize) {
+    let parameters = copied.inputs.parameters;
+    let place = Layout::new(&parameters).ballot(ballot);
     for judging in JUDGINGS {
-        let record = record_of(random, inputs, judging);
+        let openings = copied.openings();
+        let (record, votes) = match parameters.form {
+            Form::Unnumbered => {
+                (record_of(random, &openings, judging), Ok(sorted(&openings.votes)))
+            }
+            Form::Numbered(_) => {
+                let record = copied.posted(random, judging);
+                let found = copied.found_posted(&record);
+                (record, found)
+            }
+        };
         assert_eq!(judge(&record, judging), Err(Fault { number: 21, place }), "{judging:?}");
         assert_eq!(judge_by(COPIES_STAND, &record, judging), votes, "{judging:?}");
         let former = judge_by(FORMER, &record, judging);
-        match inputs.parameters.form {
+        match parameters.form {
             Form::Unnumbered => assert_eq!(former, votes, "{judging:?}"),
             Form::Numbered(_) => assert_eq!(former, Err(Fault { number: 2, place: 0 })),
         }
@@ -191,16 +202,34 @@ fn refused_since(random: &mut Random, inputs: &Inputs, ballot: usize) {
 fn of_copied_ballots() {
     let random = &mut Random::new(297);
     for (form, n) in FORMS.into_iter().flat_map(|form| [2, 3, 9].map(|n| (form, n))) {
-        let honest = inputs(random, Parameters { form, modulus: 100, n, m: 1 });
+        let honest = Copied::none(inputs(random, Parameters { form, modulus: 100, n, m: 1 }));
         for ballot in 1..n as usize {
-            let mut again = honest.clone();
             let earlier = random.index(ballot);
-            copy_ballot(&mut again, earlier, ballot);
-            refused_since(random, &again, ballot);
-            let mut place = honest.clone();
-            let from = Slot { ballot: earlier, slot: random.index(6) };
-            copy_commitment(&mut place, from, Slot { ballot, slot: random.index(6) });
-            refused_since(random, &place, ballot);
+            refused_since(random, &honest.clone().and_ballot(earlier, ballot), ballot);
+            let (from, to) = ((earlier, random.index(6)), (ballot, random.index(6)));
+            refused_since(random, &honest.clone().and(from, to), ballot);
+        }
+    }
+}
+
+/// Records with 0C were never published: what stood before document 02's item 8 is refused at its
+/// first opening, and what stands was. With 01 nothing changes.
+#[test]
+fn of_commitments_without_a_place() {
+    let random = &mut Random::new(299);
+    for (form, judging) in FORMS.into_iter().flat_map(|form| JUDGINGS.map(|j| (form, j))) {
+        let inputs = inputs(random, Parameters { form, modulus: 100, n: 4, m: 2 });
+        let placed = Secrets::new(&inputs);
+        let bare = Secrets { scheme: Scheme::Bare, ..placed.clone() };
+        let votes = Ok(sorted(&inputs.votes));
+        for (secrets, of_form) in [(placed, true), (bare, form == Form::Unnumbered)] {
+            let forgery = Forgery::new(secrets, random.mask(2));
+            let record = forgery.record(random, judging);
+            let fault = Err(Fault { number: 13, place: forgery.layout.ballot_half(0) });
+            let stood = !of_form || form == Form::Unnumbered;
+            let due = |stands| if stands { &votes } else { &fault };
+            assert_eq!(judge(&record, judging), *due(of_form), "{form:?}");
+            assert_eq!(judge_by(UNPLACED, &record, judging), *due(stood), "{form:?}");
         }
     }
 }

@@ -6,9 +6,10 @@ use crate::subject::tablet;
 use paddockyear_tests::boards::calls::misuse::{check_each, check_pairs, misuse_at_random};
 use paddockyear_tests::boards::calls::tablet::TabletCall;
 use paddockyear_tests::boards::{honest, parameters, Layout, ELECTIONS, FORMS, MODULI, NEITHER};
+use paddockyear_tests::hex;
 use paddockyear_tests::random::Random;
 use paddockyear_tests::reference::receipt::{check_receipt, Posted};
-use paddockyear_tests::reference::tablet::SplitVote;
+use paddockyear_tests::reference::tablet::{receipt, SplitVote};
 use paddockyear_tests::reference::terms::{Form, Parameters};
 
 /// Runs the call; a refusal leaves both buffers as they were.
@@ -50,25 +51,33 @@ fn ids_at_the_limits() {
     }
 }
 
-/// The tablet knows no other ballot: cast again under another id, only the id differs. Six equal
-/// commitments stand.
+/// The command and receipt that a call writes.
+fn written(mut call: TabletCall) -> TabletCall {
+    let TabletCall { form, modulus, id, split, keys, command, receipt } = &mut call;
+    assert_eq!(tablet(*form, *modulus, *id, split, keys, command, receipt), Ok(()));
+    call
+}
+
+fn six(call: &TabletCall) -> BTreeSet<&[u8]> {
+    call.command[5..].chunks(32).collect()
+}
+
+/// The tablet knows no other ballot: cast again under another id, with 01 only the id differs, and
+/// with 0C every commitment. Six equal openings stand, and with 01 so do the six equal commitments.
 #[test]
 fn copied_ballots() {
     let random = &mut Random::new(74);
-    let first = TabletCall::honest(random);
-    let written = |mut call: TabletCall| {
-        let TabletCall { form, modulus, id, split, keys, command, receipt } = &mut call;
-        assert_eq!(tablet(*form, *modulus, *id, split, keys, command, receipt), Ok(()));
-        call
-    };
-    let again = written(TabletCall { id: first.id ^ 1, ..first.clone() });
-    let first = written(first);
-    assert_eq!(first.command[5..], again.command[5..]);
-    assert_ne!(first.receipt, again.receipt);
-    let split = SplitVote { vote: 6, shares: [2, 2], firsts: [1; 3] };
-    let equal = TabletCall { modulus: 9, split, keys: vec![0x11; 192], ..first };
-    let command = written(equal).command;
-    assert!(command[5..].chunks(32).all(|commitment| commitment == &command[5..37]));
+    for form in FORMS {
+        let first = TabletCall { form, ..TabletCall::honest(random) };
+        let again = written(TabletCall { id: first.id ^ 1, ..first.clone() });
+        let first = written(first);
+        let common = six(&first).intersection(&six(&again)).count();
+        assert_ne!(first.receipt, again.receipt);
+        let split = SplitVote { vote: 6, shares: [2, 2], firsts: [1; 3] };
+        let equal = TabletCall { modulus: 9, split, keys: vec![0x11; 192], ..again.clone() };
+        let found = (first.command[5..] == again.command[5..], common, six(&written(equal)).len());
+        assert_eq!(found, if form == Form::Unnumbered { (true, 6, 1) } else { (false, 0, 6) });
+    }
 }
 
 #[test]
@@ -131,22 +140,58 @@ fn tablet_refusals() {
     }
 }
 
-/// Command and receipt are the same in every form.
+/// The same vote for another election, or under an id with another bit, or with 01: the command's
+/// first five bytes tell the id alone, and no commitment is another's, at whichever slot.
 #[test]
-fn forms() {
+fn other_elections_and_ids() {
     let random = &mut Random::new(71);
-    for _ in 0..20 {
-        let call = TabletCall::honest(random);
-        let written = |form| {
-            let TabletCall { modulus, id, split, keys, mut command, mut receipt, .. } =
-                call.clone();
-            tablet(form, modulus, id, &split, &keys, &mut command, &mut receipt).unwrap();
-            (command, receipt)
-        };
+    for _ in 0..10 {
+        let call = TabletCall { form: Form::Unnumbered, ..TabletCall::honest(random) };
+        let mut met = BTreeSet::new();
+        let mut calls = vec![call.clone()];
         for election in ELECTIONS {
-            assert_eq!(written(Form::Numbered(election)), written(Form::Unnumbered));
+            let call = TabletCall { form: Form::Numbered(election), ..call.clone() };
+            let ids = (0..32).map(|bit| call.id ^ 1 << bit).chain([call.id]);
+            calls.extend(ids.map(|id| TabletCall { id, ..call.clone() }));
         }
+        let count = calls.len();
+        for call in calls {
+            let call = written(call);
+            assert_eq!(call.command[..5], [&[0x02][..], &call.id.to_be_bytes()].concat());
+            assert_eq!(call.receipt, receipt(call.id, &call.command));
+            met.extend(six(&call).into_iter().map(<[u8]>::to_vec));
+        }
+        assert_eq!((count, met.len()), (1 + 12 * 33, 6 * count));
     }
+}
+
+/// By another program's SHA-3: 1 at u1, v1, u2, v2, u3 and v3, the keys 32 bytes of 11.
+const SLOTS: [&str; 6] = [
+    "54199839954d31bf50667d016bd5007bba9f7cc9dbebebcb957b2825841d6acf",
+    "0ae9220ece5483ce8fbab3627bf1e7b46e365a19eb14abded4fd78837697138d",
+    "7b01e2c1808ee8c7686e39fefe979137113eff7b37d85aa6676416f2b0ae19df",
+    "b20890ae15f9837f10c74ba5f4ea9f67eac6f3347e78e263aaeab8f1fd67b6b9",
+    "222fd6e374a5d87fdbdaf15540fdde4174bf1931c64b1498a959c905fc5edc38",
+    "a41fa9d26f59db5cd7202712a94ced6a11b09ec3fde57ea78a137cc8b93e5d6c",
+];
+const RECEIPT: &str = "0000000718f86d41e4838a97a2f46e697d9cb33e3e856df31980f8a6f794be8f";
+
+/// One key and one number at all six slots, worked out outside: the tablet of election 1 for id 7.
+#[test]
+fn slots() {
+    let split = SplitVote { vote: 6, shares: [2, 2], firsts: [1; 3] };
+    let call = TabletCall {
+        form: Form::Numbered(1),
+        modulus: 9,
+        id: 7,
+        split,
+        keys: vec![0x11; 192],
+        command: vec![0xA5; 197],
+        receipt: vec![0xA5; 32],
+    };
+    let call = written(call);
+    assert_eq!(call.command[5..].chunks(32).map(hex).collect::<Vec<String>>(), SLOTS);
+    assert_eq!(hex(&call.receipt), RECEIPT);
 }
 
 /// The tablet writes what part one has for the ballot.

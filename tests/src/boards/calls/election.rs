@@ -74,7 +74,7 @@ impl Given for ElectionCall {
 
 impl Misusable for ElectionCall {
     fn misuses(&self) -> Vec<Misuse<Self>> {
-        let mut all = inputs::misuses(self.inputs.parameters.ballots());
+        let mut all = inputs::misuses(&self.inputs.parameters);
         all.extend(dice());
         all.extend(buffers());
         if self.mask_given != 0 {

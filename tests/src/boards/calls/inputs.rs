@@ -1,8 +1,8 @@
 //! Misuses of the inputs that every part and the election are given.
 
 use super::misuse::{drop_last, further, last, Misuse};
-use crate::boards::copies::{copy_ballot, copy_commitment, Slot};
-use crate::reference::terms::{refusal, MAX_BALLOTS, MAX_M};
+use crate::boards::copies::{copy_ballot, copy_opening, Slot};
+use crate::reference::terms::{refusal, Form, Parameters, MAX_BALLOTS, MAX_M};
 use crate::reference::writer::Inputs;
 
 /// A call that is given inputs.
@@ -10,11 +10,13 @@ pub trait Given {
     fn inputs(&mut self) -> &mut Inputs;
 }
 
-/// Every misuse of inputs with so many ballots.
-pub fn misuses<C: Given>(ballots: usize) -> Vec<Misuse<C>> {
+/// Every misuse of inputs with these parameters. With 0C no inputs make a copied ballot.
+pub fn misuses<C: Given>(parameters: &Parameters) -> Vec<Misuse<C>> {
     let mut all = [limits(), lengths(), numbers(), places()].concat();
-    if ballots > 1 {
+    if parameters.n > 1 {
         all.extend(two_ballots());
+    }
+    if parameters.n > 1 && parameters.form == Form::Unnumbered {
         all.extend(copies());
     }
     all
@@ -120,11 +122,11 @@ fn copies<C: Given>() -> Vec<Misuse<C>> {
         rule("a commitment of the ballot before", |call| {
             let (ballot, slot) = (call.inputs().parameters.ballots() - 1, 3);
             let before = Slot { ballot: ballot - 1, slot: 3 };
-            copy_commitment(call.inputs(), before, Slot { ballot, slot });
+            copy_opening(call.inputs(), before, Slot { ballot, slot });
         }),
         rule("a commitment at another place", |call| {
             let (from, to) = (Slot { ballot: 0, slot: 5 }, Slot { ballot: 1, slot: 0 });
-            copy_commitment(call.inputs(), from, to);
+            copy_opening(call.inputs(), from, to);
         }),
     ]
 }

@@ -76,7 +76,7 @@ impl Given for PartCall {
 
 impl Misusable for PartCall {
     fn misuses(&self) -> Vec<Misuse<Self>> {
-        let mut all = inputs::misuses(self.inputs.parameters.ballots());
+        let mut all = inputs::misuses(&self.inputs.parameters);
         all.extend(buffer());
         if self.has_dice() {
             all.extend(dice());

@@ -1,5 +1,6 @@
 //! Rule 21: a ballot with a commitment of an earlier ballot, at whichever places. Whole boards are
-//! proofs but for their copies; of others the record ends behind the ballots, where 1 is due.
+//! proofs but for their copies, or but for those of them that are opened; of others the record ends
+//! behind the ballots, where 1 is due.
 
 use std::collections::BTreeSet;
 
@@ -11,7 +12,7 @@ use paddockyear_tests::boards::*;
 use paddockyear_tests::random::Random;
 use paddockyear_tests::reference::judge::{judge_by, Fault, Judging, JUDGINGS};
 use paddockyear_tests::reference::terms::{sorted, Commitment, Form, Parameters, COPIES_STAND};
-use paddockyear_tests::reference::writer::{Inputs, Secrets};
+use paddockyear_tests::reference::writer::Secrets;
 
 const M: u32 = 100;
 
@@ -20,25 +21,48 @@ fn ways() -> impl Iterator<Item = (Form, Judging)> {
     FORMS.into_iter().flat_map(|form| JUDGINGS.map(|judging| (form, judging)))
 }
 
-fn any_inputs(random: &mut Random, n: u32) -> Inputs {
-    inputs(random, Parameters::unnumbered(M, n, 1))
+fn honest(random: &mut Random, n: u32) -> Copied {
+    Copied::none(inputs(random, Parameters::unnumbered(M, n, 1)))
 }
 
-/// The board of these inputs, in both forms, is at fault at this ballot, or accepted if there is
-/// none; while copies stood it was accepted.
+fn in_form(copied: &Copied, form: Form) -> Copied {
+    let mut copied = copied.clone();
+    copied.inputs.parameters.form = form;
+    copied
+}
+
+/// The board is at fault at this ballot, or where there is none as it was while copies stood.
 #[track_caller]
-fn check(random: &mut Random, inputs: &Inputs, ballot: Option<usize>) {
+fn check_record(
+    copied: &Copied,
+    record: &[u8],
+    judging: Judging,
+    stood: Result<Vec<u32>, Fault>,
+    ballot: Option<usize>,
+) {
+    let parameters = copied.inputs.parameters;
+    let place = |j| Layout::new(&parameters).ballot(j);
+    let found = judge_by(COPIES_STAND, record, judging);
+    assert_eq!(found, stood, "{:?} {judging:?}", parameters.form);
+    let due = match ballot {
+        Some(j) => Err(Fault { number: 21, place: place(j) }),
+        None => stood,
+    };
+    assert_eq!(judge(record, judging), due, "{:?} {judging:?}", parameters.form);
+}
+
+/// Boards with these copies, of openings and as posted: at fault at this ballot, or accepted if
+/// there is none; while copies stood, what is not opened wrongly was. With 0C equal openings stand.
+#[track_caller]
+fn check(random: &mut Random, copied: &Copied, ballot: Option<usize>) {
     for (form, judging) in ways() {
-        let parameters = Parameters { form, ..inputs.parameters };
-        let record = record_of(random, &Inputs { parameters, ..inputs.clone() }, judging);
-        let accepted = Ok(sorted(&inputs.votes));
-        assert_eq!(judge_by(COPIES_STAND, &record, judging), accepted, "{form:?} {judging:?}");
-        let place = |j| Layout::new(&parameters).ballot(j);
-        let due = match ballot {
-            Some(j) => Err(Fault { number: 21, place: place(j) }),
-            None => accepted,
-        };
-        assert_eq!(judge(&record, judging), due, "{form:?} {judging:?}");
+        let copied = in_form(copied, form);
+        let openings = copied.openings();
+        let record = record_of(random, &openings, judging);
+        let equal = if form == Form::Unnumbered { ballot } else { None };
+        check_record(&copied, &record, judging, Ok(sorted(&openings.votes)), equal);
+        let record = copied.posted(random, judging);
+        check_record(&copied, &record, judging, copied.found_posted(&record), ballot);
     }
 }
 
@@ -70,10 +94,8 @@ fn every_pair_of_places() {
     let random = &mut Random::new(600);
     for (from, to) in pairs_of_places() {
         for (earlier, later) in [(0, 1), (0, 2), (1, 2)] {
-            let mut inputs = any_inputs(random, 3);
-            let from = Slot { ballot: earlier, slot: from };
-            copy_commitment(&mut inputs, from, Slot { ballot: later, slot: to });
-            check(random, &inputs, Some(later));
+            let copied = honest(random, 3).and((earlier, from), (later, to));
+            check(random, &copied, Some(later));
         }
     }
 }
@@ -84,13 +106,10 @@ fn every_pair_of_ballots() {
     let random = &mut Random::new(601);
     for later in 1..7 {
         for earlier in 0..later {
-            let mut inputs = any_inputs(random, 7);
-            let from = Slot { ballot: earlier, slot: random.index(6) };
-            let mut again = inputs.clone();
-            copy_commitment(&mut inputs, from, Slot { ballot: later, slot: random.index(6) });
-            check(random, &inputs, Some(later));
-            copy_ballot(&mut again, earlier, later);
-            check(random, &again, Some(later));
+            let honest = honest(random, 7);
+            let (from, to) = (random.index(6), random.index(6));
+            check(random, &honest.clone().and((earlier, from), (later, to)), Some(later));
+            check(random, &honest.and_ballot(earlier, later), Some(later));
         }
     }
 }
@@ -100,11 +119,9 @@ fn every_pair_of_ballots() {
 fn ballot_in_another_order() {
     let random = &mut Random::new(602);
     for turn in 1..6 {
-        let mut inputs = any_inputs(random, 2);
-        let mut six = inputs.ballot_openings(0);
-        six.rotate_left(turn);
-        put_ballot(&mut inputs, 1, six);
-        check(random, &inputs, Some(1));
+        let turned = |copied: Copied, slot| copied.and((0, (slot + turn) % 6), (1, slot));
+        let copied = (0..6).fold(honest(random, 2), turned);
+        check(random, &copied, Some(1));
     }
 }
 
@@ -114,17 +131,10 @@ fn equal_inside_a_ballot() {
     let random = &mut Random::new(603);
     for (first, second) in pairs_inside() {
         for ballot in 0..3 {
-            let mut inputs = any_inputs(random, 3);
-            let from = Slot { ballot, slot: first };
-            copy_commitment(&mut inputs, from, Slot { ballot, slot: second });
-            check(random, &inputs, None);
+            let copied = honest(random, 3).and((ballot, first), (ballot, second));
+            check(random, &copied, None);
         }
     }
-}
-
-fn fill_ballot(inputs: &mut Inputs, ballot: usize, slot: usize) {
-    let opening = inputs.ballot_openings(ballot)[slot];
-    put_ballot(inputs, ballot, [opening; 6]);
 }
 
 /// Six equal ones in a ballot, and in each; of one ballot too.
@@ -132,12 +142,11 @@ fn fill_ballot(inputs: &mut Inputs, ballot: usize, slot: usize) {
 fn all_equal_inside_a_ballot() {
     let random = &mut Random::new(604);
     for n in [1, 2, 3] {
-        let mut all = any_inputs(random, n);
+        let mut all = honest(random, n);
         for ballot in 0..n as usize {
-            let mut one = any_inputs(random, n);
-            fill_ballot(&mut one, ballot, 1);
+            let one = honest(random, n).and_inside(ballot, 1);
             check(random, &one, None);
-            fill_ballot(&mut all, ballot, 4);
+            all = all.and_inside(ballot, 4);
         }
         check(random, &all, None);
     }
@@ -147,20 +156,15 @@ fn all_equal_inside_a_ballot() {
 #[test]
 fn equal_inside_and_copied() {
     let random = &mut Random::new(605);
-    let slot = |ballot, slot| Slot { ballot, slot };
     for inside in 0..5 {
         for (earlier, later) in [(0, 4), (0, 2), (1, 2), (2, 3), (3, 4)] {
-            let mut inputs = any_inputs(random, 5);
-            fill_ballot(&mut inputs, inside, 3);
-            copy_commitment(&mut inputs, slot(earlier, 0), slot(later, 5));
-            check(random, &inputs, Some(later));
+            let copied = honest(random, 5).and_inside(inside, 3).and((earlier, 0), (later, 5));
+            check(random, &copied, Some(later));
         }
     }
     // All six of a ballot in all six places of another.
-    let mut inputs = any_inputs(random, 4);
-    fill_ballot(&mut inputs, 1, 0);
-    copy_ballot(&mut inputs, 1, 3);
-    check(random, &inputs, Some(3));
+    let copied = honest(random, 4).and_inside(1, 0).and_ballot(1, 3);
+    check(random, &copied, Some(3));
 }
 
 /// In three ballots: the second one's place.
@@ -169,12 +173,10 @@ fn three_equal_ones() {
     let random = &mut Random::new(606);
     for [first, second, third] in [[0, 1, 2], [0, 1, 4], [0, 2, 3], [1, 2, 3], [2, 3, 4]] {
         for _ in 0..4 {
-            let mut inputs = any_inputs(random, 5);
-            let from = Slot { ballot: first, slot: random.index(6) };
-            for ballot in [third, second] {
-                copy_commitment(&mut inputs, from, Slot { ballot, slot: random.index(6) });
-            }
-            check(random, &inputs, Some(second));
+            let from = (first, random.index(6));
+            let to = [third, second].map(|ballot| (ballot, random.index(6)));
+            let copied = honest(random, 5).and(from, to[0]).and(from, to[1]);
+            check(random, &copied, Some(second));
         }
     }
 }
@@ -235,7 +237,7 @@ fn commitments_that_differ_in_one_byte() {
         for byte in 0..32 {
             for bits in [0x01, 0x80, 0xFF] {
                 let (from, slot) = (random.index(6), random.index(6));
-                let mut commitment = secrets.ballots[0][from].commitment();
+                let mut commitment = secrets.ballot_commitments(0)[from];
                 commitment[byte] ^= bits;
                 let at = Slot { ballot: 1 + byte % 2, slot };
                 met.insert(check_posted(random, &secrets, at, &commitment));
@@ -410,9 +412,8 @@ fn before_the_list_entries() {
     let random = &mut Random::new(615);
     for (form, judging) in ways() {
         let parameters = Parameters { form, modulus: M, n: 3, m: 1 };
-        let mut inputs = inputs(random, parameters);
-        copy_commitment(&mut inputs, Slot { ballot: 1, slot: 4 }, Slot { ballot: 2, slot: 1 });
-        let (record, layout) = (record_of(random, &inputs, judging), Layout::new(&parameters));
+        let copied = Copied::none(inputs(random, parameters)).and((1, 4), (2, 1));
+        let (record, layout) = (copied.posted(random, judging), Layout::new(&parameters));
         let fault = Fault { number: 21, place: layout.ballot(2) };
         for place in layout.commands().into_iter().filter(|&place| place >= layout.entry(0, 0)) {
             let mut other = record.clone();
@@ -456,22 +457,38 @@ fn ballots_that_n_counts() {
     }
 }
 
-/// Lists that show the ballots' own commitments, entry for entry: only ballots are compared.
+/// Lists that have the ballots' own openings, entry for entry: with 01 they show their commitments,
+/// but only ballots are compared.
 #[test]
 fn entries_like_ballots() {
     let random = &mut Random::new(618);
     for n in [1, 2, 5] {
-        let mut inputs = any_inputs(random, n);
-        mirror_ballots(&mut inputs);
-        check(random, &inputs, None);
-        let record = record_of(random, &inputs, Judging::Plain);
-        let layout = Layout::new(&inputs.parameters);
-        let place = inputs.permutations[0] as usize;
-        assert_eq!(
-            record[layout.ballot(place) + 5..][..192],
-            record[layout.entry(0, 0) + 4..][..192]
-        );
-        assert_eq!(record[layout.entry(0, 0)..][4..196], record[layout.entry(1, 0)..][4..196]);
+        let mut copied = honest(random, n);
+        mirror_ballots(&mut copied.inputs);
+        check(random, &copied, None);
+        let record = record_of(random, &copied.inputs, Judging::Plain);
+        let layout = Layout::new(&copied.inputs.parameters);
+        let ballot = copied.inputs.permutations[0] as usize;
+        let six = &record[layout.ballot_commitment(ballot, 0)..][..192];
+        for list in 0..2 {
+            assert_eq!(*six, record[layout.entry_commitment(list, 0, 0)..][..192]);
+        }
+    }
+}
+
+/// Ballots' commitments posted in a list entry, with 0C too: none of the ballots is a copy.
+#[test]
+fn entries_that_show_a_ballot() {
+    let random = &mut Random::new(623);
+    for (form, judging) in ways() {
+        let secrets = Secrets::new(&inputs(random, Parameters { form, modulus: M, n: 3, m: 1 }));
+        let six = secrets.ballot_commitments(2);
+        let mut forgery = Forgery::new(secrets, 0b01);
+        let layout = forgery.layout;
+        forgery.set(layout.entry_commitment(1, 1, 0), six.as_flattened());
+        let record = forgery.record(random, judging);
+        let fault = Fault { number: 13, place: layout.full_opening(0, 1) };
+        assert_eq!(judge(&record, judging), Err(fault), "{form:?} {judging:?}");
     }
 }
 
@@ -481,25 +498,23 @@ fn entries_like_each_other() {
     let random = &mut Random::new(619);
     let mut inputs = still_inputs(random, Parameters::unnumbered(M, 4, 1));
     inputs.keys[192 * 4..].fill(0xA5);
-    check(random, &inputs, None);
-    copy_ballot(&mut inputs, 2, 3);
-    check(random, &inputs, Some(3));
+    let copied = Copied::none(inputs);
+    check(random, &copied, None);
+    check(random, &copied.and_ballot(2, 3), Some(3));
 }
 
 /// With one ballot there is none that it could copy.
 #[test]
 fn fewest_ballots() {
     let random = &mut Random::new(620);
-    let mut one = any_inputs(random, 1);
+    let one = honest(random, 1);
     check(random, &one, None);
-    copy_commitment(&mut one, Slot { ballot: 0, slot: 0 }, Slot { ballot: 0, slot: 1 });
-    check(random, &one, None);
-    let mut two = any_inputs(random, 2);
+    check(random, &one.and((0, 0), (0, 1)), None);
+    let two = honest(random, 2);
     check(random, &two, None);
-    fill_ballot(&mut two, 0, 2);
+    let two = two.and_inside(0, 2);
     check(random, &two, None);
-    copy_commitment(&mut two, Slot { ballot: 0, slot: 5 }, Slot { ballot: 1, slot: 3 });
-    check(random, &two, Some(1));
+    check(random, &two.and((0, 5), (1, 3)), Some(1));
 }
 
 /// Zeros, as posted, are a commitment like any other.
@@ -521,8 +536,9 @@ fn commitments_of_zeros() {
 #[test]
 fn of_many_lists() {
     let random = &mut Random::new(622);
-    let mut inputs = inputs(random, Parameters::numbered(u32::MAX, M, 5, 12));
-    assert_eq!(verdict(&record_of(random, &inputs, Judging::Plain), Judging::Plain), 0);
-    copy_commitment(&mut inputs, Slot { ballot: 0, slot: 3 }, Slot { ballot: 4, slot: 2 });
-    assert_eq!(verdict(&record_of(random, &inputs, Judging::Plain), Judging::Plain), 21);
+    let honest = Copied::none(inputs(random, Parameters::numbered(u32::MAX, M, 5, 12)));
+    let copied = honest.clone().and((0, 3), (4, 2));
+    for (board, number) in [(honest, 0), (copied, 21)] {
+        assert_eq!(verdict(&board.posted(random, Judging::Plain), Judging::Plain), number);
+    }
 }

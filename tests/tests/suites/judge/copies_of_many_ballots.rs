@@ -203,20 +203,20 @@ fn beside_other_faults() {
 fn whole_boards() {
     let random = &mut Random::new(637);
     for (n, form) in [257, 1025].into_iter().zip(FORMS) {
-        let mut inputs = inputs(random, Parameters { form, modulus: u32::MAX, n, m: 1 });
         let last = n as usize - 1;
-        let slot = |ballot, slot| Slot { ballot, slot };
-        copy_commitment(&mut inputs, slot(last, 1), slot(last, 4));
-        copy_commitment(&mut inputs, slot(0, 0), slot(0, 5));
-        let record = record_of(random, &inputs, Judging::Drawn);
-        assert_eq!(judge(&record, Judging::Drawn), Ok(sorted(&inputs.votes)));
-        copy_commitment(&mut inputs, slot(0, 3), slot(last, 2));
-        let record = record_of(random, &inputs, Judging::Drawn);
+        let parameters = Parameters { form, modulus: u32::MAX, n, m: 1 };
+        let inside =
+            Copied::none(inputs(random, parameters)).and((last, 1), (last, 4)).and((0, 0), (0, 5));
+        let openings = inside.openings();
+        let record = record_of(random, &openings, Judging::Drawn);
+        assert_eq!(judge(&record, Judging::Drawn), Ok(sorted(&openings.votes)));
+        let copied = inside.and((0, 3), (last, 2));
+        let record = copied.posted(random, Judging::Drawn);
         let fault = Fault { number: 21, place: form.width() + 197 * last };
         for judging in JUDGINGS {
             assert_eq!(judge(&record, judging), Err(fault), "{judging:?}");
             let before = judge_by(COPIES_STAND, &record, judging);
-            assert_eq!(before, Ok(sorted(&inputs.votes)), "{judging:?}");
+            assert_eq!(before, copied.found_posted(&record), "{judging:?}");
         }
     }
 }

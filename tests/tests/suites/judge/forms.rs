@@ -4,7 +4,7 @@ use std::collections::BTreeSet;
 
 use super::verdict;
 use crate::subject::judge;
-use paddockyear_tests::boards::damage::damaged_by;
+use paddockyear_tests::boards::damage::{Damaged, Forgery};
 use paddockyear_tests::boards::*;
 use paddockyear_tests::random::Random;
 use paddockyear_tests::reference::drawing::{drawn_mask, drawn_sides, seed};
@@ -149,22 +149,25 @@ fn numbered_read_as_unnumbered() {
     refused(&record[..204], 1, 8);
 }
 
-/// Plain judging finds in a record with 0C what it finds in the same with 01, 4 bytes further on.
+/// Plain judging finds in a record with 0C what it finds in the same with 01, 4 bytes further on,
+/// where its commitments are those of its form.
 #[test]
 fn plainly_as_unnumbered() {
     let random = &mut Random::new(405);
     let mut met = BTreeSet::new();
     let edition = Edition { numbered: false, ..NOW };
     for _ in 0..1_500 {
-        let (record, _) = damaged_by(edition, random, (6, 2), Judging::Plain);
+        let mut damaged = Damaged::any(edition, random, (6, 2), Judging::Plain);
+        let (record, _) = damaged.record(random, Judging::Plain);
         if record.first() != Some(&0x01) {
             continue;
         }
         let found = judge(&record, Judging::Plain).unwrap_err();
         let longer = if found.place == 0 { 0 } else { 4 };
         let due = Fault { place: found.place + longer, ..found };
-        let election = any_number(random);
-        assert_eq!(judge(&numbered(&record, election), Judging::Plain), Err(due));
+        damaged.inputs.parameters.form = Form::Numbered(any_number(random));
+        let (record, _) = damaged.record(random, Judging::Plain);
+        assert_eq!((record[0], judge(&record, Judging::Plain)), (0x0C, Err(due)));
         met.insert(due.number);
     }
     assert!(met.into_iter().eq((1..=17).chain([21]).filter(|rule| ![8, 12].contains(rule))));
@@ -177,7 +180,8 @@ fn any_number(random: &mut Random) -> u32 {
     }
 }
 
-/// Any number goes into both draws: another one, or another form, is refused by drawn judging.
+/// Any number goes into both draws and into every commitment: with another one, drawn judging finds
+/// another mask, and plain judging an opening that does not give its commitment.
 #[test]
 fn other_numbers_draw_otherwise() {
     let random = &mut Random::new(406);
@@ -186,13 +190,14 @@ fn other_numbers_draw_otherwise() {
     for bit in 0..32 {
         let mut other = record.clone();
         other[1 + bit / 8] ^= 1 << (bit % 8);
-        assert_eq!(verdict(&other, Judging::Plain), 0);
-        let fault = Fault { number: 8, place: layout.first_dice() };
-        assert_eq!(judge(&other, Judging::Drawn), Err(fault), "bit {bit}");
+        let faults = [(13, layout.ballot_half(0)), (8, layout.first_dice())];
+        for (judging, (number, place)) in JUDGINGS.into_iter().zip(faults) {
+            assert_eq!(judge(&other, judging), Err(Fault { number, place }), "bit {bit}");
+        }
     }
 }
 
-/// Part one of one form before parts two and three that were drawn for another.
+/// Part one of one form before parts two and three that were drawn for another: they open the same.
 #[test]
 fn parts_of_two_forms() {
     let random = &mut Random::new(407);
@@ -210,6 +215,26 @@ fn parts_of_two_forms() {
             let fault = Fault { number: 8, place: layout.first_dice() };
             let due = if form == other { Ok(sorted(&inputs.votes)) } else { Err(fault) };
             assert_eq!(judge(&record, Judging::Drawn), due, "{form:?} and {other:?}");
+        }
+    }
+}
+
+/// The ballots and lists of one form behind the first command of another, with what is drawn there:
+/// the first opening gives no commitment.
+#[test]
+fn commitments_of_another_form() {
+    let random = &mut Random::new(410);
+    let forms = [Form::Unnumbered, Form::Numbered(0), Form::Numbered(1), Form::Numbered(1 << 24)];
+    for (form, other) in forms.into_iter().flat_map(|form| forms.map(|other| (form, other))) {
+        let inputs = inputs(random, Parameters { form, modulus: 100, n: 3, m: 2 });
+        let mut secrets = Secrets::new(&inputs);
+        secrets.scheme = other.scheme();
+        let forgery = Forgery::new(secrets, random.mask(2));
+        for judging in JUDGINGS {
+            let fault = Fault { number: 13, place: forgery.layout.ballot_half(0) };
+            let due = if form == other { Ok(sorted(&inputs.votes)) } else { Err(fault) };
+            let record = forgery.record(random, judging);
+            assert_eq!(judge(&record, judging), due, "{other:?} behind {form:?}");
         }
     }
 }
@@ -260,5 +285,6 @@ fn number_left_out_or_put_in() {
     // The number is M, and M n and m.
     refused(&twice, 3, 0);
     let unnumbered = [&[0x01][..], &record[5..]].concat();
-    assert_eq!(verdict(&unnumbered, Judging::Plain), 0);
+    let place = Layout::new(&Parameters::unnumbered(100, 2, 1)).ballot_half(0);
+    assert_eq!(judge(&unnumbered, Judging::Plain), Err(Fault { number: 13, place }));
 }

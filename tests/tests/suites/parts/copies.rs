@@ -1,5 +1,8 @@
 //! Rule 21 of the parts: inputs that would give a ballot a commitment of an earlier one. What is
-//! compared are the ballots' commitments, so that number and key both count.
+//! compared are the ballots' commitments, so that number and key both count, and with 0C the place
+//! as well: there equal openings stand.
+
+use std::collections::BTreeSet;
 
 use super::{answer, run};
 use crate::subject::mask_entry;
@@ -9,7 +12,7 @@ use paddockyear_tests::boards::*;
 use paddockyear_tests::random::Random;
 use paddockyear_tests::reference::drawing::{drawn_mask, seed};
 use paddockyear_tests::reference::judge::{judge, Judging};
-use paddockyear_tests::reference::terms::{sorted, Opening, Parameters};
+use paddockyear_tests::reference::terms::{sorted, Form, Opening, Parameters};
 use paddockyear_tests::reference::writer::{mask_of, Inputs, Secrets};
 
 const M: u32 = 100;
@@ -18,21 +21,36 @@ fn any_inputs(random: &mut Random, n: u32) -> Inputs {
     inputs(random, Parameters::unnumbered(M, n, 1))
 }
 
-/// Every kind of call in both forms answers `number`, 0 for done.
-#[track_caller]
-fn check(random: &mut Random, inputs: &Inputs, number: u8) {
-    for (kind, form) in KINDS.into_iter().flat_map(|kind| FORMS.map(|form| (kind, form))) {
-        let parameters = Parameters { form, ..inputs.parameters };
-        let inputs = Inputs { parameters, ..inputs.clone() };
-        let call = PartCall::of(random, inputs, kind);
-        assert_eq!(answer(call), number, "{kind:?} {form:?}");
+/// What is answered in this form where it is `number` with 01.
+fn due(form: Form, number: u8) -> u8 {
+    match form {
+        Form::Unnumbered => number,
+        Form::Numbered(_) => 0,
     }
 }
 
-/// The same, and the joined parts are accepted.
+fn in_form(inputs: &Inputs, form: Form) -> Inputs {
+    Inputs { parameters: Parameters { form, ..inputs.parameters }, ..inputs.clone() }
+}
+
+/// Every kind of call answers `number` with 01, 0 for done, and 0 with 0C.
+#[track_caller]
+fn check(random: &mut Random, inputs: &Inputs, number: u8) {
+    for (kind, form) in KINDS.into_iter().flat_map(|kind| FORMS.map(|form| (kind, form))) {
+        let call = PartCall::of(random, in_form(inputs, form), kind);
+        assert_eq!(answer(call), due(form, number), "{kind:?} {form:?}");
+    }
+}
+
+/// Every kind of call is done in both forms, and the joined parts are accepted.
 #[track_caller]
 fn check_written(random: &mut Random, inputs: &Inputs) {
     check(random, inputs, 0);
+    FORMS.iter().for_each(|&form| check_accepted(random, &in_form(inputs, form)));
+}
+
+#[track_caller]
+fn check_accepted(random: &mut Random, inputs: &Inputs) {
     let mut one = PartCall::of(random, inputs.clone(), (1, BOTH));
     run(&mut one).unwrap();
     let mut two = PartCall::of(random, inputs.clone(), (2, BOTH));
@@ -70,7 +88,7 @@ fn every_pair_of_places() {
         for (earlier, later) in [(0, 1), (0, 2), (1, 2)] {
             let mut inputs = any_inputs(random, 3);
             let from = Slot { ballot: earlier, slot: from };
-            copy_commitment(&mut inputs, from, Slot { ballot: later, slot: to });
+            copy_opening(&mut inputs, from, Slot { ballot: later, slot: to });
             check(random, &inputs, 21);
         }
     }
@@ -113,7 +131,7 @@ fn equal_inside_a_ballot() {
         for ballot in 0..3 {
             let mut inputs = any_inputs(random, 3);
             let from = Slot { ballot, slot: first };
-            copy_commitment(&mut inputs, from, Slot { ballot, slot: second });
+            copy_opening(&mut inputs, from, Slot { ballot, slot: second });
             check_written(random, &inputs);
         }
     }
@@ -126,11 +144,7 @@ fn equal_inside_a_ballot() {
         }
         let last = n as usize - 1;
         if last > 0 {
-            copy_commitment(
-                &mut inputs,
-                Slot { ballot: 0, slot: 0 },
-                Slot { ballot: last, slot: 1 },
-            );
+            copy_opening(&mut inputs, Slot { ballot: 0, slot: 0 }, Slot { ballot: last, slot: 1 });
             check(random, &inputs, 21);
         }
     }
@@ -176,25 +190,74 @@ fn equal_keys() {
     }
 }
 
+/// The keys that were searched for below: four bytes eight times; their number is 0.
+fn searched(k: u32) -> Opening {
+    Opening { key: k.to_be_bytes().repeat(8).try_into().unwrap(), number: 0 }
+}
+
+/// The third slot of ballot 7 and the sixth of ballot 9, with these openings.
+fn with_openings(random: &mut Random, form: Form, [first, second]: [Opening; 2]) -> Inputs {
+    let mut inputs = in_form(&any_inputs(random, 3), form);
+    inputs.ids = vec![7, 8, 9];
+    put_opening(&mut inputs, Slot { ballot: 0, slot: 2 }, first);
+    put_opening(&mut inputs, Slot { ballot: 2, slot: 5 }, second);
+    let secrets = Secrets::new(&inputs);
+    assert_ne!(secrets.ballot_commitments(0)[2], secrets.ballot_commitments(2)[5]);
+    inputs
+}
+
 /// Commitments whose first five bytes are equal, or their last five: such openings were searched
 /// for. All bytes of a commitment count.
 #[test]
 fn commitments_that_begin_or_end_alike() {
     let random = &mut Random::new(652);
-    let opening =
-        |k: u32| Opening { key: k.to_be_bytes().repeat(8).try_into().unwrap(), number: 0 };
-    for (pair, equal) in [([481_402, 1_049_026], 0..5), ([272_240, 405_408], 27..32)] {
-        let [one, other] = pair.map(opening);
-        assert_eq!(one.commitment()[equal.clone()], other.commitment()[equal]);
-        for (first, second) in [(one, other), (other, one)] {
-            let mut inputs = any_inputs(random, 3);
-            let [from, to] = [(0, 2), (2, 5)].map(|(ballot, slot)| Slot { ballot, slot });
-            put_opening(&mut inputs, from, first);
-            put_opening(&mut inputs, to, second);
-            check_written(random, &inputs);
-            put_opening(&mut inputs, to, first);
-            check(random, &inputs, 21);
+    let [unnumbered, numbered] = FORMS;
+    for (form, keys, equal) in [
+        (unnumbered, [481_402, 1_049_026], 0..5),
+        (unnumbered, [1_049_026, 481_402], 0..5),
+        (unnumbered, [272_240, 405_408], 27..32),
+        (unnumbered, [405_408, 272_240], 27..32),
+        (numbered, [68_611, 1_181_599], 0..5),
+        (numbered, [27_595, 4_434_110], 27..32),
+    ] {
+        let pair = keys.map(searched);
+        let mut inputs = with_openings(random, form, pair);
+        let secrets = Secrets::new(&inputs);
+        let (first, second) = (secrets.ballot_commitments(0)[2], secrets.ballot_commitments(2)[5]);
+        assert_eq!(first[equal.clone()], second[equal]);
+        check_accepted(random, &inputs);
+        put_opening(&mut inputs, Slot { ballot: 2, slot: 5 }, pair[0]);
+        for kind in KINDS {
+            let call = PartCall::of(random, inputs.clone(), kind);
+            assert_eq!(answer(call), due(form, 21), "{kind:?} {form:?}");
         }
+    }
+}
+
+/// Ballots cast again with 0C, one and all of them, under ids that differ in one bit: the board is
+/// accepted, and none of its commitments is another's.
+#[test]
+fn equal_openings_that_stand() {
+    let random = &mut Random::new(653);
+    for (election, bit) in ELECTIONS.into_iter().zip([0, 1, 7, 8, 15, 16, 23, 24, 30, 31, 31, 0]) {
+        let mut inputs = inputs(random, Parameters::numbered(election, M, 4, 1));
+        inputs.ids = vec![0, 1 << bit, u32::MAX - (1 << (31 - bit)), u32::MAX];
+        inputs.ids.sort_unstable();
+        copy_ballot(&mut inputs, 0, 1);
+        check_accepted(random, &inputs);
+        (2..4).for_each(|ballot| copy_ballot(&mut inputs, 0, ballot));
+        check_accepted(random, &inputs);
+        let opening = inputs.ballot_openings(0)[0];
+        (0..4).for_each(|ballot| put_ballot(&mut inputs, ballot, [opening; 6]));
+        mirror_ballots(&mut inputs);
+        check_accepted(random, &inputs);
+        let mut call = PartCall::of(random, inputs.clone(), (1, BOTH));
+        run(&mut call).unwrap();
+        let six = |at: usize| call.out[at..][..192].chunks(32).map(<[u8]>::to_vec);
+        let layout = Layout::new(&inputs.parameters);
+        let ballots = (0..4).flat_map(|j| six(layout.ballot_commitment(j, 0)));
+        let entries = (0..8).flat_map(|at| six(layout.entry_commitment(at / 4, at % 4, 0)));
+        assert_eq!(ballots.chain(entries).collect::<BTreeSet<_>>().len(), 72);
     }
 }
 
@@ -257,7 +320,7 @@ fn numbers_at_the_limits() {
             let mut copied = inputs.clone();
             for to in 0..6 {
                 let to = Slot { ballot: 2, slot: to };
-                copy_commitment(&mut copied, Slot { ballot: 0, slot }, to);
+                copy_opening(&mut copied, Slot { ballot: 0, slot }, to);
                 check(random, &copied, 21);
             }
         }
@@ -300,7 +363,7 @@ fn behind_every_other_refusal() {
     for (kind, form) in KINDS.into_iter().flat_map(|kind| FORMS.map(|form| (kind, form))) {
         let mut call = PartCall::honest(random, Parameters { form, modulus: M, n: 3, m: 1 }, kind);
         copy_ballot(&mut call.inputs, 0, 1);
-        assert_eq!(answer(call.clone()), 21, "{kind:?}");
+        assert_eq!(answer(call.clone()), due(form, 21), "{kind:?}");
         for (number, change) in breaks(&call) {
             let mut call = call.clone();
             change(&mut call);
@@ -323,7 +386,7 @@ fn lent_parts_with_copies() {
             let call = PartCall::of(random, honest.clone(), kind);
             assert_eq!(answer(PartCall { part_one: with.clone(), ..call }), 0);
             let call = PartCall::of(random, copied.clone(), kind);
-            assert_eq!(answer(PartCall { part_one: without.clone(), ..call }), 21);
+            assert_eq!(answer(PartCall { part_one: without.clone(), ..call }), due(form, 21));
         }
         let dice = random.dice();
         let mask = drawn_mask(1, &seed(&dice, &with));

@@ -26,12 +26,38 @@ fn written_part_one(inputs: &Inputs) -> Vec<u8> {
     out
 }
 
-/// Worked out by hand: 12 bytes for 8, and all that stands behind them as it was.
+/// What is no commitment of a part one behind its first command.
+fn operands(part_one: &[u8], parameters: &Parameters) -> Vec<u8> {
+    let (n, lists) = (parameters.ballots(), parameters.lists());
+    let widths = [vec![5; n], vec![4; lists * n]].concat();
+    let mut rest = &part_one[parameters.form.width()..];
+    let mut operands = Vec::new();
+    for width in widths {
+        operands.extend(&rest[..width]);
+        rest = &rest[width + 192..];
+    }
+    assert!(rest.is_empty());
+    operands
+}
+
+fn commitments_of(part_one: &[u8], parameters: &Parameters) -> BTreeSet<Vec<u8>> {
+    let layout = Layout::new(parameters);
+    let six = |at: usize| part_one[at..][..192].chunks(32).map(<[u8]>::to_vec);
+    let n = parameters.ballots();
+    let entries = (0..parameters.lists()).flat_map(|list| (0..n).map(move |i| (list, i)));
+    let ballots = (0..n).flat_map(|j| six(layout.ballot_commitment(j, 0)));
+    let entries = entries.flat_map(|(list, i)| six(layout.entry_commitment(list, i, 0)));
+    ballots.chain(entries).collect()
+}
+
+/// Worked out by hand: 12 bytes for 8, and all that stands behind them as it was, but for the
+/// commitments, of which none is as with 01 or with another number.
 #[test]
 fn first_commands() {
     let inputs = inputs(&mut Random::new(300), Parameters::unnumbered(0x0405_0607, 3, 2));
     let unnumbered = written_part_one(&inputs);
     assert_eq!(unnumbered[..8], [0x01, 0x04, 0x05, 0x06, 0x07, 0x00, 0x03, 0x02]);
+    let mut commitments = commitments_of(&unnumbered, &inputs.parameters);
     for (election, bytes) in [
         (0, [0, 0, 0, 0]),
         (1, [0, 0, 0, 1]),
@@ -43,13 +69,17 @@ fn first_commands() {
         (2_147_483_648, [128, 0, 0, 0]),
         (4_294_967_295, [255, 255, 255, 255]),
     ] {
-        let numbered = written_part_one(&in_form(&inputs, Form::Numbered(election)));
+        let in_form = in_form(&inputs, Form::Numbered(election));
+        let numbered = written_part_one(&in_form);
         assert_eq!(numbered[0], 0x0C);
         assert_eq!(numbered[1..5], bytes);
         assert_eq!(numbered[5..12], unnumbered[1..8]);
-        assert!(numbered[12..] == unnumbered[8..]);
+        let others = operands(&numbered, &in_form.parameters);
+        assert_eq!(others, operands(&unnumbered, &inputs.parameters));
+        commitments.extend(commitments_of(&numbered, &in_form.parameters));
         assert_eq!(numbered.len(), unnumbered.len() + 4);
     }
+    assert_eq!(commitments.len(), 10 * 6 * (3 + 4 * 3));
 }
 
 /// By the papers' formulas, and by hand.

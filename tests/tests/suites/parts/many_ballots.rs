@@ -3,8 +3,8 @@
 use super::{answer, calls, check, run};
 use paddockyear_tests::boards::calls::misuse::check_each;
 use paddockyear_tests::boards::calls::parts::PartCall;
-use paddockyear_tests::boards::copies::{copy_ballot, copy_commitment, put_ballot, Slot};
-use paddockyear_tests::boards::{mistaken, BOTH, FAR_PLACES};
+use paddockyear_tests::boards::copies::{copy_ballot, copy_opening, put_ballot, Slot};
+use paddockyear_tests::boards::{mistaken, BOTH, FAR_PLACES, FORMS};
 use paddockyear_tests::random::Random;
 use paddockyear_tests::reference::terms::{Opening, Parameters};
 
@@ -102,7 +102,7 @@ fn rule_21_far_copies() {
             let (from, to) = ((turn + earlier) % 6, (turn + later + 1) % 6);
             let six = call.inputs.ballot_openings(later);
             let from = Slot { ballot: earlier, slot: from };
-            copy_commitment(&mut call.inputs, from, Slot { ballot: later, slot: to });
+            copy_opening(&mut call.inputs, from, Slot { ballot: later, slot: to });
             assert_eq!(run(&mut call), Err(21), "{earlier} and {later}");
             put_ballot(&mut call.inputs, later, six);
         }
@@ -113,10 +113,16 @@ fn rule_21_far_copies() {
     }
 }
 
-/// One key for all, so that numbers alone tell the ballots apart: they rise or fall.
+/// One key for all, so that numbers alone tell the ballots apart: they rise or fall. With 0C places
+/// do, too.
 #[test]
 fn rule_21_one_key() {
-    let parameters = Parameters::numbered(7, u32::MAX, MOST as u32, 1);
+    for (form, copied) in FORMS.into_iter().zip([21, 0]) {
+        check_one_key(Parameters { form, modulus: u32::MAX, n: MOST as u32, m: 1 }, copied);
+    }
+}
+
+fn check_one_key(parameters: Parameters, copied: u8) {
     let mut call = PartCall::honest(&mut Random::new(286), parameters, (1, BOTH));
     call.inputs.keys.fill(0);
     for number in [|k: usize| k as u32, |k: usize| u32::MAX - 1 - k as u32] {
@@ -125,9 +131,9 @@ fn rule_21_one_key() {
             put_ballot(&mut call.inputs, ballot, std::array::from_fn(opening));
         }
         check(&call, 0, |_| ());
-        check(&call, 21, |call| {
+        check(&call, copied, |call| {
             let (from, to) = (Slot { ballot: 0, slot: 5 }, Slot { ballot: MOST - 1, slot: 0 });
-            copy_commitment(&mut call.inputs, from, to);
+            copy_opening(&mut call.inputs, from, to);
         });
     }
 }

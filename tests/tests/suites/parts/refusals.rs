@@ -9,7 +9,7 @@ use paddockyear_tests::boards::calls::misuse::{
 use paddockyear_tests::boards::calls::parts::{PartCall, KINDS};
 use paddockyear_tests::boards::{parameters, FORMS};
 use paddockyear_tests::random::Random;
-use paddockyear_tests::reference::terms::Parameters;
+use paddockyear_tests::reference::terms::{Form, Parameters};
 
 #[test]
 fn every_misuse() {
@@ -56,7 +56,8 @@ fn refusals_of_each_kind() {
         for form in FORMS {
             let parameters = Parameters { form, modulus: 100, n: 3, m: 2 };
             let call = PartCall::honest(random, parameters, kind);
-            let met: BTreeSet<u8> = call.misuses().iter().map(|misuse| misuse.number).collect();
+            let mut met: BTreeSet<u8> = call.misuses().iter().map(|misuse| misuse.number).collect();
+            assert_eq!(met.insert(21), form != Form::Unnumbered, "with 0C no inputs are copies");
             assert!(met.iter().eq(due), "{kind:?}");
         }
         let mut answers = BTreeSet::new();
