@@ -36,6 +36,9 @@ static struct board {
     struct side now, before;
 } honest[FORMS][JUDGINGS], bad[BAD_BOARDS];
 
+/* Whether the earlier judge accepts the honest boards: it may know other commitments with 0C. */
+static int accepted[FORMS];
+
 /* What is timed. */
 static const struct board *board;
 static const struct side *side;
@@ -69,6 +72,10 @@ static void make_honest(int form) {
     struct board made = {of.parts.joined, of.parts.joined_length, none, none};
     made.now.judge = paddockyear_judge_plainly;
     made.before.judge = before_paddockyear_judge_plainly;
+    uint32_t before = made.before.judge(made.record, made.length);
+    accepted[form] = before == 0;
+    demand(accepted[form] || (form == NUMBERED && before == PADDOCKYEAR_RULE_OPENING),
+           "the earlier judge refuses");
     honest[form][PLAINLY] = made;
     made.now.judge = paddockyear_judge_as_drawn;
     made.before.judge = before_paddockyear_judge_as_drawn;
@@ -101,6 +108,7 @@ static void make_boards(void) {
 static void time_boards(void) {
     for (int repetition = 0; repetition < REPETITIONS; repetition++) {
         for (int form = 0; form < FORMS; form++) {
+            if (!accepted[form]) continue;
             time_board(&honest[form][PLAINLY], 1);
             time_board(&honest[form][AS_DRAWN], 1);
         }
@@ -116,6 +124,10 @@ static void print_honest(int form, int judging) {
     const struct board *of = &honest[form][judging];
     const char *how = judging == PLAINLY ? "plainly," : "as drawn,";
     printf("Judging %s %-9s n = %d  ", first_command(form), how, MOST);
+    if (!accepted[form]) {
+        printf("skipped, the earlier judge knows other commitments\n");
+        return;
+    }
     print_times(of);
     printf("   ratio %.3f (aim: at most %.2f)\n", of->now.best / of->before.best, RATIO_AIM);
 }

@@ -6,7 +6,7 @@
 #include <string.h>
 
 enum { MAX_BALLOTS = 4096, MAX_M = 12, DICE = 30, SEED = 86 };
-enum { COMMITMENT = 32, OPENING = 36 };
+enum { COMMITMENT = 32, OPENING = 36, PLACED = OPENING + 10, OF_BALLOT = 255 };
 enum { RATE_224 = 144, RATE_256 = 136 };
 enum { PARAMETERS = 0x01, NUMBERED_PARAMETERS = 0x0C, ELECTION = 4 };
 
@@ -82,9 +82,10 @@ static void hash(const EVP_MD *md, size_t rate, const uint8_t *m, size_t length,
     check(EVP_DigestFinal_ex(hashing, out, NULL));
 }
 
-/* A record being read: the places of the next command, of the one read last, of the first ballot. */
+/* A record being read: the places of the next command, of the one read last, of the first ballot.
+ * With command 01 there is no number of an election. */
 struct board {
-    const uint8_t *record;
+    const uint8_t *record, *election;
     size_t length, next, place, hashed, first_ballot;
     int drawn;
     uint32_t modulus, n, m, mask;
@@ -198,12 +199,50 @@ static int below_modulus(const struct board *b, const uint8_t *openings, int cou
     return 1;
 }
 
-/* Each opening against the commitment `step` places behind the one before. */
-static int openings_give(const uint8_t *openings, int count, const uint8_t *commitments, int step) {
+/* Whose six commitments are opened: those of a ballot, by its id, or of a list, by the position. */
+struct holder {
+    const uint8_t *commitments;
+    uint8_t list;
+    uint32_t index;
+};
+
+static struct holder ballot_of(const struct board *b, uint32_t ballot) {
+    const uint8_t *commitments = ballot_commitments(b, ballot);
+    return (struct holder){commitments, OF_BALLOT, number_at(commitments - 4, 4)};
+}
+
+static struct holder entry_of(const struct board *b, uint32_t list, uint32_t position) {
+    return (struct holder){entry_commitments(b, list, position), (uint8_t)list, position};
+}
+
+/* With an election's number it and the place are hashed behind the opening. */
+static void commit(const struct board *b, const uint8_t *opening, const struct holder *of,
+                   uint8_t slot, uint8_t digest[32]) {
+    if (b->election == NULL) {
+        hash(sha3_256, RATE_256, opening, OPENING, digest);
+        return;
+    }
+    uint8_t message[PLACED];
+    const uint8_t place[] = {slot,
+                             of->list,
+                             (uint8_t)(of->index >> 24),
+                             (uint8_t)(of->index >> 16),
+                             (uint8_t)(of->index >> 8),
+                             (uint8_t)of->index};
+    memcpy(message, opening, OPENING);
+    memcpy(message + OPENING, b->election, ELECTION);
+    memcpy(message + OPENING + ELECTION, place, sizeof place);
+    hash(sha3_256, RATE_256, message, PLACED, digest);
+}
+
+/* Each opening against the commitment `step` slots behind the one before. */
+static int openings_give(const struct board *b, const uint8_t *openings, int count,
+                         struct holder of, int first, int step) {
     for (int i = 0; i < count; i++) {
+        int slot = first + step * i;
         uint8_t digest[32];
-        hash(sha3_256, RATE_256, openings + OPENING * i, OPENING, digest);
-        if (memcmp(digest, commitments + COMMITMENT * step * i, COMMITMENT) != 0) return 0;
+        commit(b, openings + OPENING * i, &of, (uint8_t)slot, digest);
+        if (memcmp(digest, of.commitments + COMMITMENT * slot, COMMITMENT) != 0) return 0;
     }
     return 1;
 }
@@ -221,6 +260,7 @@ static int parameters(struct board *b) {
     const uint8_t *operands;
     if (b->length > 0 && b->record[0] == NUMBERED_PARAMETERS) {
         TRY(command(b, NUMBERED_PARAMETERS, ELECTION + 7, &operands));
+        b->election = operands;
         operands += ELECTION;
     } else {
         TRY(command(b, PARAMETERS, 7, &operands));
@@ -367,8 +407,7 @@ static int ballot_half(struct board *b, uint32_t ballot, uint8_t *side, uint32_t
     DEMAND(below_modulus(b, openings, 3), NUMBER);
     DEMAND(*side <= 1, SIDE);
     DEMAND(!b->drawn || *side == drawn_side(b, ballot), SIDE_DRAWN);
-    const uint8_t *commitments = ballot_commitments(b, ballot) + COMMITMENT * *side;
-    DEMAND(openings_give(openings, 3, commitments, 2), WRONG_OPENING);
+    DEMAND(openings_give(b, openings, 3, ballot_of(b, ballot), *side, 2), WRONG_OPENING);
     *total = sum(b, openings, 3);
     return 0;
 }
@@ -388,8 +427,7 @@ static int list_half(struct board *b, uint32_t rank, uint32_t ballot, uint8_t si
     uint32_t position = number_at(link + 3, 2), t = number_at(link + 5, 4);
     DEMAND(operands[0] == list && number_at(operands + 1, 2) == position, OPERAND);
     DEMAND(below_modulus(b, openings, 3), NUMBER);
-    const uint8_t *commitments = entry_commitments(b, list, position) + COMMITMENT * side;
-    DEMAND(openings_give(openings, 3, commitments, 2), WRONG_OPENING);
+    DEMAND(openings_give(b, openings, 3, entry_of(b, list, position), side, 2), WRONG_OPENING);
     DEMAND(agrees(b, side, total, sum(b, openings, 3), t), HALVES);
     return 0;
 }
@@ -437,8 +475,7 @@ static int opened_list(struct board *b, uint32_t list) {
         const uint8_t *openings = operands + 3;
         DEMAND(operands[0] == list && number_at(operands + 1, 2) == position, OPERAND);
         DEMAND(below_modulus(b, openings, 6), NUMBER);
-        const uint8_t *commitments = entry_commitments(b, list, position);
-        DEMAND(openings_give(openings, 6, commitments, 1), WRONG_OPENING);
+        DEMAND(openings_give(b, openings, 6, entry_of(b, list, position), 0, 1), WRONG_OPENING);
         values[position] = sum(b, openings, 6);
     }
     DEMAND(permutes_votes(b, values), OPENED_LIST);

@@ -66,8 +66,9 @@ static uint64_t permutations_due(int form, uint64_t n, uint64_t m) {
     /* "SHA3-224(i in decimal, first Q, "2")" for each list and "SHA3-224(j + 1 in decimal, second
      * Q, "1")" for each ballot: at most 4 + 86 + 1 bytes. */
     uint64_t draws = 2 * m + n;
-    /* "A commitment is the SHA3-256 of an opening's 36 bytes": three for each of n commands 07 and
-     * mn commands 08, six for each of mn commands 0A. */
+    /* "A commitment is the SHA3-256 of an opening's 36 bytes", with 0C of 46 bytes, less than a
+     * block too: three for each of n commands 07 and mn commands 08, six for each of mn commands
+     * 0A. */
     uint64_t openings = 3 * (n + m * n) + 6 * m * n;
     return prefixes + draws + openings;
 }

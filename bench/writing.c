@@ -13,15 +13,14 @@
 
 #define AIM 1.06
 
-enum { REPETITIONS = 16, PARTS = 3, SEED = 86, OPENING = 36 };
+enum { REPETITIONS = 16, PARTS = 3, SEED = 86, OPENING = 36, PLACED = OPENING + 10 };
 
 /* Commitments of a ballot, and of it with an entry of each list. */
 enum { OF_BALLOT = 6, COMMITMENTS = OF_BALLOT * (1 + LISTS) };
 
-#define LENT(array) (array), sizeof(array) / sizeof((array)[0])
-
-/* What is hashed alone: as many openings, and a message of the longest draw. */
-static uint8_t openings[COMMITMENTS * MOST][OPENING], message[4 + SEED + 1];
+/* What is hashed alone: as many openings, each with number and place of a commitment with 0C, and a
+ * message of the longest draw. */
+static uint8_t openings[COMMITMENTS * MOST][PLACED], message[4 + SEED + 1];
 
 struct times {
     double writing, hashing;
@@ -76,8 +75,8 @@ static void write_all(void) {
 /* So many commitments for each ballot. */
 static void hash_openings(size_t each) {
     uint8_t digest[32];
-    size_t count = each * board->of.in.ballots;
-    for (size_t i = 0; i < count; i++) paddockyear_sha3_256(LENT(openings[i]), digest);
+    size_t count = each * board->of.in.ballots, length = board->of.in.numbered ? PLACED : OPENING;
+    for (size_t i = 0; i < count; i++) paddockyear_sha3_256(openings[i], length, digest);
 }
 
 /* The ballots' commitments, which each part makes for its test of copies, and then all that it

@@ -7,7 +7,7 @@ use paddockyear_tests::boards::damage::*;
 use paddockyear_tests::boards::*;
 use paddockyear_tests::random::Random;
 use paddockyear_tests::reference::judge::{Fault, Judging, JUDGINGS};
-use paddockyear_tests::reference::terms::Parameters;
+use paddockyear_tests::reference::terms::{Form, Parameters};
 use paddockyear_tests::reference::writer::Secrets;
 
 /// The same shape in both forms.
@@ -229,9 +229,9 @@ fn bytes_behind() {
     }
 }
 
-/// Plain judging passes a flipped bit only in the election's number, in the id, in dice that stay
-/// fair, and in commitments that nothing opens; every fault lies at the flipped command or behind.
-/// Of M's bits only that.
+/// Plain judging passes a flipped bit only in dice that stay fair, in commitments that nothing opens,
+/// and with 01 in the id, which no commitment knows there; every fault lies at the flipped command or
+/// behind. Of M's bits only that.
 #[test]
 fn every_flipped_bit() {
     let random = &mut Random::new(27);
@@ -305,15 +305,15 @@ fn dice_places(parameters: &Parameters) -> Vec<usize> {
     dice.iter().flat_map(|place| place + 1..place + 31).collect()
 }
 
-/// For one ballot and two lists: the election's number, the id, the dice, and the unopened side of
-/// ballot and list.
+/// For one ballot and two lists: the dice, the unopened side of ballot and list, and with 01 the id.
 fn free_places(board: &Board, record: &[u8]) -> BTreeSet<usize> {
     let layout = Layout::new(&board.inputs.parameters);
     let hidden = 1 - usize::from(record[layout.ballot_half(0) + 3]);
     let compared = board.mask.trailing_zeros() as usize;
-    let mut free: BTreeSet<usize> = (layout.ballot(0) + 1..layout.ballot(0) + 5).collect();
-    free.extend(dice_places(&board.inputs.parameters));
-    free.extend(1..layout.modulus());
+    let mut free: BTreeSet<usize> = dice_places(&board.inputs.parameters).into_iter().collect();
+    if board.inputs.parameters.form == Form::Unnumbered {
+        free.extend(layout.ballot(0) + 1..layout.ballot(0) + 5);
+    }
     for commitments in [layout.ballot(0) + 5, layout.entry(compared, 0) + 4] {
         for row in 0..3 {
             let start = commitments + 32 * (2 * row + hidden);

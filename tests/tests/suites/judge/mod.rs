@@ -7,6 +7,7 @@ mod damaged;
 mod forms;
 mod honest;
 mod many_ballots;
+mod places;
 
 use crate::subject::judge;
 use paddockyear_tests::reference::judge::Judging;
