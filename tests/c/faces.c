@@ -514,6 +514,8 @@ static uint32_t filled(const uint8_t *bytes, size_t length) {
     return same;
 }
 
+static uint32_t differ(const uint8_t *a, const uint8_t *b, size_t length) { return memcmp(a, b, length) != 0; }
+
 /* ---- Copied ballots */
 
 /* What the ballots of the inputs are made of, to be changed. */
@@ -530,16 +532,22 @@ static struct paddockyear_inputs unchanged_inputs(void) {
     return in;
 }
 
-/* Every writing call is refused by 21, and leaves all lent bytes. */
-static void be_refused_by_all(const struct paddockyear_inputs *in) {
+/* With 01 every writing call is refused by 21, and leaves all lent bytes. With 0C their places tell equal openings apart, so that all is
+ * written, and accepted. */
+static void lend_copies_to_all(const struct paddockyear_inputs *in) {
     struct paddockyear_throws throws = lent_throws();
     struct paddockyear_parts parts = lent_parts();
+    uint32_t due = numbered == 0 ? 21 : 0;
     kept = changed;
     fill_buffers();
-    write_by_all(21, in, &throws, &parts);
+    write_by_all(due, in, &throws, &parts);
     throws.mask_given = throws.sides_given = 0;
-    EXPECT(21, paddockyear_hold(in, &throws, &parts));
-    EXPECT(1, filled(LENT(one)) && filled(LENT(two)) && filled(LENT(three)) && filled(LENT(joined)));
+    EXPECT(due, paddockyear_hold(in, &throws, &parts));
+    if (numbered == 0) {
+        EXPECT(1, filled(LENT(one)) && filled(LENT(two)) && filled(LENT(three)) && filled(LENT(joined)));
+    } else {
+        EXPECT(0, paddockyear_judge_as_drawn(joined, record_length()));
+    }
     EXPECT(0, (uint32_t)memcmp(&changed, &kept, sizeof kept));
 }
 
@@ -553,19 +561,19 @@ static void copy_inputs(void) {
     changed.votes[1] = changed.votes[0];
     memcpy(changed.numbers + 5, changed.numbers, 5 * sizeof changed.numbers[0]);
     memcpy(changed.keys + KEYS, changed.keys, KEYS);
-    be_refused_by_all(&in);
+    lend_copies_to_all(&in);
     in.permutations = none; /* 19 goes before 21 */
     write_by_all(19, &in, &throws, &parts);
     in = unchanged_inputs();
     third[4] = (changed.votes[2] + 3 * M - third[0] - third[1] - changed.numbers[2]) % M;
     memcpy(changed.keys + 2 * KEYS + 5 * KEY, changed.keys, KEY);
-    be_refused_by_all(&in);
+    lend_copies_to_all(&in);
     third[4] = (third[4] + 1) % M; /* the key alone makes no copy */
     write_by_all(0, &in, &throws, &parts);
     report("copied ballots in the servers' inputs");
 }
 
-/* One commitment in all six places of the first ballot stands: six numbers 0, six equal keys. */
+/* Equal openings in all six places of the first ballot stand: six numbers 0, six equal keys. With 01 so do six equal commitments. */
 static void commit_alike_inside(void) {
     struct paddockyear_inputs in = unchanged_inputs();
     struct paddockyear_throws throws = lent_throws();
@@ -575,9 +583,9 @@ static void commit_alike_inside(void) {
     memset(changed.numbers, 0, 5 * sizeof changed.numbers[0]);
     for (int key = 1; key < 6; key++) memcpy(changed.keys + key * KEY, changed.keys, KEY);
     write_by_all(0, &in, &throws, &parts);
-    for (int place = 1; place < 6; place++) EXPECT(0, (uint32_t)memcmp(commitments + place * 32, commitments, 32));
+    for (int place = 1; place < 6; place++) EXPECT(numbered != 0, differ(commitments + place * 32, commitments, 32));
     EXPECT(0, paddockyear_judge_plainly(joined, record_length()));
-    report("equal commitments inside a ballot");
+    report("equal openings inside a ballot");
 }
 
 /* Both judgings of joined, or of its first bytes, stop at this ballot by this number. */
@@ -683,26 +691,42 @@ static void tell_alike(void) {
     report("what is told alike");
 }
 
-/* The first command, and what comes behind it: with mask and sides given the same bytes, and where they are drawn, others. */
+/* One ballot or list entry of both records: the same operands, and six commitments that all differ. */
+static void compare_commitments(const uint8_t *of_plain, const uint8_t *of_number, size_t operands) {
+    EXPECT(0, differ(of_plain, of_number, operands));
+    for (size_t at = operands; at < operands + 6 * 32; at += 32) EXPECT(1, differ(of_plain + at, of_number + at, 32));
+}
+
+/* The first command, and what comes behind it: in part one only the commitments are others, and so are parts two and three where they are
+ * drawn, and not where mask and sides are given. */
 static void compare_bytes(void) {
     static const uint8_t first[] = {0x01, 0, 0, 0, M, 0, N, COMPARED},
                          first_numbered[] = {0x0C, 0x0C, 1, 0xFE, 7, 0, 0, 0, M, 0, N, COMPARED};
-    static const uint32_t elections[] = {0, 1, 0x01020304, UINT32_MAX};
-    size_t behind = PADDOCKYEAR_RECORD_LENGTH(0, N, COMPARED) - sizeof first;
+    size_t one_length = PADDOCKYEAR_PART_ONE_LENGTH(0, N, COMPARED), behind = PADDOCKYEAR_RECORD_LENGTH(0, N, COMPARED) - one_length;
     for (int drawn = 0; drawn < 2; drawn++) {
-        EXPECT(0, (uint32_t)memcmp(plain.joined[drawn], first, sizeof first));
-        EXPECT(0, (uint32_t)memcmp(with_number.joined[drawn], first_numbered, sizeof first_numbered));
-        int differs = memcmp(plain.joined[drawn] + sizeof first, with_number.joined[drawn] + sizeof first_numbered, behind) != 0;
-        EXPECT((uint32_t)drawn, (uint32_t)differs);
+        const uint8_t *of_plain = plain.joined[drawn], *of_number = with_number.joined[drawn];
+        EXPECT(0, differ(of_plain, first, sizeof first));
+        EXPECT(0, differ(of_number, first_numbered, sizeof first_numbered));
+        EXPECT((uint32_t)drawn, differ(of_plain + one_length, of_number + one_length + 4, behind));
+        for (size_t at = 8; at < 8 + N * BALLOT; at += BALLOT) compare_commitments(of_plain + at, of_number + at + 4, 5);
+        for (size_t at = 8 + N * BALLOT; at < one_length; at += 196) compare_commitments(of_plain + at, of_number + at + 4, 4);
     }
-    EXPECT(0, (uint32_t)memcmp(plain.joined[0] + sizeof first, plain.command, sizeof plain.command));
-    EXPECT(0, (uint32_t)memcmp(with_number.joined[0] + sizeof first_numbered, with_number.command, sizeof with_number.command));
+    EXPECT(0, differ(plain.joined[0] + sizeof first, plain.command, sizeof plain.command));
+    EXPECT(0, differ(with_number.joined[0] + sizeof first_numbered, with_number.command, sizeof with_number.command));
+    report("bytes of the two forms");
+}
+
+/* Each number is in the first command as told, and in every commitment of the tablet, so that a receipt is of one election. */
+static void tell_other_numbers(void) {
+    static const uint32_t elections[] = {0, 1, 0x01020304, UINT32_MAX};
     for (size_t i = 0; i < LENGTH(elections); i++) {
         write_all(1, elections[i], &other);
         const uint8_t *number = other.joined[1] + 1;
         EXPECT(elections[i], (uint32_t)number[0] << 24 | (uint32_t)number[1] << 16 | (uint32_t)number[2] << 8 | number[3]);
+        compare_commitments(other.command, with_number.command, 5);
+        EXPECT(1, differ(other.receipt, with_number.receipt, sizeof other.receipt));
     }
-    report("bytes of the two forms");
+    report("other numbers of an election");
 }
 
 /* Buffers of the length that the other form has, there being room for either: 18, and nothing is written. */
@@ -729,24 +753,33 @@ static void lend_other_lengths(uint32_t flag) {
     report("buffers of the other form's length");
 }
 
-/* Each bit 0 behind the first command changed, in both records: the same number, and its place 4 bytes further on with 0C. */
+/* The ballot whose id has this byte of a record with 01, from 1, or 0. */
+static size_t ballot_of_id(size_t at) {
+    size_t in_ballot = (at - 8) % BALLOT;
+    return at < 8 + N * BALLOT && in_ballot >= 1 && in_ballot <= 4 ? 1 + (at - 8) / BALLOT : 0;
+}
+
+/* Each bit 0 behind the first command changed, in both records: the same number, and its place 4 bytes further on with 0C. Only an id that
+ * still rises is no fault with 01, and with 0C one of its ballot's openings. */
 static void find_faults_further_on(void) {
-    size_t length = PADDOCKYEAR_RECORD_LENGTH(0, N, COMPARED);
+    size_t length = PADDOCKYEAR_RECORD_LENGTH(0, N, COMPARED), halves = length - PADDOCKYEAR_PART_THREE_LENGTH(N, COMPARED) + 31;
     unsigned refused = 0;
     for (size_t at = 8; at < length; at++) {
         uint64_t place = 77, further = 77;
         plain.joined[0][at] ^= 1, with_number.joined[0][at + 4] ^= 1;
         uint32_t number = paddockyear_first_fault(plain.joined[0], length, 0, &place);
+        refused += number != 0;
+        if (number == 0 && ballot_of_id(at) != 0) number = 13, place = halves + 112 * (1 + COMPARED) * (ballot_of_id(at) - 1);
         EXPECT(number, paddockyear_first_fault(with_number.joined[0], length + 4, 0, &further));
         EXPECT(1, number == 0 ? place == 77 && further == 77 : further == place + 4);
-        refused += number != 0;
         plain.joined[0][at] ^= 1, with_number.joined[0][at + 4] ^= 1;
     }
     printf("of records with one bit changed, %u were refused\n", refused);
     report("places of faults in the two forms");
 }
 
-/* The first command's own faults are at 0: the byte, where it stops, its limits. The election's number has none. */
+/* The first command's own faults are at 0: the byte, where it stops, its limits. The election's number has none, but with another one no
+ * opening gives its commitment. */
 static void spoil_first_command(void) {
     static const uint8_t bytes[] = {0, 2, 11, 13, 0x8C, 0xFF};
     static const struct {
@@ -775,6 +808,8 @@ static void spoil_first_command(void) {
     }
     for (size_t at = 1; at <= 4; at++) {
         record[at] ^= 0xFF;
+        EXPECT(13, paddockyear_judge_plainly(record, length));
+        record[at] ^= 0xFF;
         EXPECT(0, paddockyear_judge_plainly(record, length));
     }
     report("the command 0C");
@@ -801,6 +836,7 @@ static void compare_forms(void) {
     printf("both commands\n");
     tell_alike();
     compare_bytes();
+    tell_other_numbers();
     lend_other_lengths(0);
     lend_other_lengths(1);
     find_faults_further_on();

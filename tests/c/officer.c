@@ -202,12 +202,32 @@ static void spoil_permutation(struct election *of) {
     be_refused(of, 19, "a permutation that is none");
 }
 
-/* What a tablet sent of the first ballot, taken for the second one too. */
+/* What a tablet sent of the first ballot, taken for the second one too: under the other id its commitments are others. Those of the first
+ * ballot are of no use there. */
 static void feed_ballot_twice(struct election *of) {
+    const struct paddockyear_inputs in = inputs_of(of);
+    const struct paddockyear_parts parts = parts_of(of);
+    uint8_t *fed = of->joined + FIRST_COMMAND, *again = fed + PADDOCKYEAR_COMMAND_LENGTH;
     of->votes[1] = of->votes[0];
     memcpy(of->numbers + NUMBERS, of->numbers, NUMBERS * sizeof of->numbers[0]);
     memcpy(of->keys + KEYS, of->keys, KEYS);
-    be_refused(of, 21, "a ballot fed twice");
+    expect(0, paddockyear_hold(&in, &throws, &parts), "election");
+    for (size_t at = 5; at < PADDOCKYEAR_COMMAND_LENGTH; at += 32) demand(memcmp(fed + at, again + at, 32) != 0, "no commitment is a copy");
+    printf("a ballot fed twice: accepted, with commitments of its own\n");
+    memcpy(again + 5, fed + 5, PADDOCKYEAR_COMMAND_LENGTH - 5);
+    expect(21, paddockyear_judge_plainly(LENT(of->joined)), "judge_plainly");
+    printf("its commitments posted twice: refused with 21\n");
+}
+
+/* A commitment is of one election: the first one's record with the second one's number. */
+static void exchange_number(struct election *of) {
+    uint8_t before = of->joined[4];
+    demand(before == 41, "the number is as told");
+    of->joined[4] = 42;
+    expect(13, paddockyear_judge_plainly(LENT(of->joined)), "judge_plainly");
+    of->joined[4] = before;
+    expect(0, paddockyear_judge_plainly(LENT(of->joined)), "judge_plainly");
+    printf("the record of election 41 with the number 42: refused with 13\n");
 }
 
 int main(void) {
@@ -218,6 +238,7 @@ int main(void) {
     have_election(&second);
     compare_boards();
     draw_under_other_number();
+    exchange_number(&first);
     spoil_permutation(&first);
     feed_ballot_twice(&second);
     return fflush(stdout) == 0 && !ferror(stdout) ? 0 : 1;

@@ -60,7 +60,7 @@ fn copies_keep_their_bytes() {
 /// The same of those with 0C, which item 8 made anew.
 #[test]
 fn numbered_ones_keep_their_bytes() {
-    let digest = "DIGEST_NUMBERED";
+    let digest = "93e1ebea56905adbbe42c9a64db1e66e65ac3dd6757c745b9a53e9dae7fff050";
     assert_eq!(digest_of(true), (9, digest.to_string()));
 }
 
