@@ -128,7 +128,7 @@ fn elections() {
     }
 }
 
-/// The tablet writes the same whatever it is told, and refuses the same.
+/// The tablet writes what the form that it is told makes of a ballot, and refuses the same in all.
 #[test]
 fn tablets() {
     let random = &mut Random::new(504);

@@ -87,22 +87,32 @@ fn check_election(election: &Election, posted: &Posted, first: usize) {
     assert_eq!(tally(record), Ok(vec![(0, 1), (2, 1), (5, 3), (999, 1)]));
 }
 
-/// Two elections in one evening, of the same ballots: they share all but the first command and what
-/// is drawn.
+/// Two elections in one evening, of the same ballots: in part one they share all but the first
+/// command and the commitments, and what they open is the same. No receipt is of both.
 #[test]
 fn two_numbers() {
     let random = &mut Random::new(248);
     let one = election(random, Form::Numbered(1));
     let two = Election { form: Form::Numbered(2), ..one.clone() };
     let throws = drawn(random);
+    let receipts = [&one, &two].map(|of| cast(of.form, M, &of.ballots[3]).unwrap().1);
     let [one, two] = [one, two].map(|election| elect(&election, &throws).unwrap());
     assert_eq!(one.record[..12], [0x0C, 0, 0, 0, 1, 0, 0, 3, 0xE8, 0, 6, 3]);
     assert_eq!(two.record[..12], [0x0C, 0, 0, 0, 2, 0, 0, 3, 0xE8, 0, 6, 3]);
-    assert_eq!(one.parts[0][12..], two.parts[0][12..]);
+    assert_eq!(one.parts[0][12..17], two.parts[0][12..17]);
+    assert!((0..6)
+        .all(|slot| one.parts[0][17 + 32 * slot..][..32] != two.parts[0][17 + 32 * slot..][..32]));
     assert_eq!(tally(&one.record), tally(&two.record));
+    for (posted, found) in
+        [(&one, [Found::AsPrinted, Found::Otherwise]), (&two, [Found::Otherwise, Found::AsPrinted])]
+    {
+        assert_eq!(receipts.map(|receipt| check_receipt(&posted.record, &receipt).unwrap()), found);
+    }
     let mixed = [&one.parts[0][..], &two.parts[1], &two.parts[2]].concat();
     assert_eq!(judge(&mixed, false), Ok(()));
     assert!(matches!(judge(&mixed, true), Err(Refusal(8 | 12))), "mask or sides");
+    let renumbered = [&one.record[..4], &[2], &one.record[5..]].concat();
+    assert_eq!(judge(&renumbered, false), Err(Refusal(13)));
 }
 
 /// A given mask and given sides are taken; only plain judging has to accept them.
@@ -170,7 +180,8 @@ fn check_refused_elections(random: &mut Random, form: Form) {
     assert_eq!(refused(|_, throws| throws.sides = Some(vec![2; 6])), 11);
     assert_eq!(refused(|_, throws| throws.sides = Some(vec![0; 5])), 18);
     assert_eq!(refused(|election, _| election.lists[1].columns[0].permutation[0] = 6), 19);
-    assert_eq!(refused(|election, _| cast_again(&mut election.ballots)), 21);
+    let again = refused(|election, _| cast_again(&mut election.ballots));
+    assert_eq!(again, if form == Form::Unnumbered { 21 } else { 0 });
     let both = |election: &mut Election, throws: &mut Throws| {
         cast_again(&mut election.ballots);
         throws.sides = Some(vec![2; 6]);
@@ -178,7 +189,8 @@ fn check_refused_elections(random: &mut Random, form: Form) {
     assert_eq!(refused(both), 11);
 }
 
-/// The last member casts the second's ballot; the tablet does not know the others.
+/// The last member casts the second's ballot; the tablet does not know the others. With 0C its id
+/// makes other commitments of it.
 fn cast_again(ballots: &mut [Ballot]) {
     let id = ballots[5].id;
     ballots[5] = Ballot { id, ..ballots[1].clone() };

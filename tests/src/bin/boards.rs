@@ -1,7 +1,7 @@
 //! Writes boards with the reference's verdicts to standard output: honest and damaged ones of
 //! either form, or with the argument `unnumbered` those of a time without 0C and the verdicts of
-//! then, or with `uncopied` those without copied ballots, of which the verdicts were the same while
-//! copies stood. Each has its length in 8 bytes, then for plain and for drawn judging the number in
+//! then, or with `uncopied` those without copied ballots, of which the verdicts are the same where
+//! copies stand. Each has its length in 8 bytes, then for plain and for drawn judging the number in
 //! 1 byte and the place in 8, then the record.
 
 use std::env;

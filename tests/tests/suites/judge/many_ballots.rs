@@ -8,7 +8,9 @@ use crate::subject::judge;
 use paddockyear_tests::boards::*;
 use paddockyear_tests::random::Random;
 use paddockyear_tests::reference::judge::{Fault, Judging, JUDGINGS};
-use paddockyear_tests::reference::terms::{sorted, sum, Parameters};
+use paddockyear_tests::reference::terms::{
+    sorted, sum, Commitment, Form, Holder, Opening, Parameters,
+};
 use paddockyear_tests::reference::writer::Inputs;
 
 const M: u32 = u32::MAX;
@@ -196,6 +198,42 @@ fn rule_3_numbered() {
         let behind = 12 + 197 * usize::from(n);
         posted.refused(Judging::Plain, (9, &n.to_be_bytes()), 2, behind);
     }
+}
+
+/// A commitment knows all of its position: one made for any that it may be taken for is refused, in
+/// the opened list and in the compared one.
+#[test]
+fn rule_13_far_positions() {
+    let posted = largest_numbered();
+    let layout = &posted.layout;
+    let opened = usize::from(posted.record[layout.full_opening(0, 0) + 1]);
+    for position in FAR_PLACES {
+        let command = layout.full_opening(0, position);
+        for other in mistaken(position as u16) {
+            let commitment = made_for(posted, command + 4, (opened, other), 0);
+            let at = layout.entry_commitment(opened, position, 0);
+            posted.refused(Judging::Plain, (at, &commitment), 13, command);
+        }
+        let ballot = posted.ballot_at(position as u16);
+        let side = posted.record[layout.ballot_half(ballot) + 3];
+        let command = layout.list_half(ballot, 0);
+        let compared = 1 - opened;
+        for other in [position as u16 ^ 0x0100, position as u16 ^ 0x0001] {
+            let commitment = made_for(posted, command + 4, (compared, other), side);
+            let at = layout.entry_commitment(compared, position, side.into());
+            posted.refused(Judging::Plain, (at, &commitment), 13, command);
+        }
+    }
+}
+
+/// What the opening at this byte commits to in this list, at another position.
+fn made_for(posted: &Posted, at: usize, (list, position): (usize, u16), slot: u8) -> Commitment {
+    let bytes = &posted.record[at..][..36];
+    let number = u32::from_be_bytes(bytes[32..].try_into().unwrap());
+    let opening = Opening { key: bytes[..32].try_into().unwrap(), number };
+    let election = u32::from_be_bytes(posted.record[1..5].try_into().unwrap());
+    let place = Holder::entry(list, position.into()).slot(slot);
+    Form::Numbered(election).scheme().commitment(place, &opening)
 }
 
 /// Position n and those above it, also where a position loses no more than a high bit.
