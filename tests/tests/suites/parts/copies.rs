@@ -190,7 +190,7 @@ fn equal_keys() {
     }
 }
 
-/// The keys that were searched for below: four bytes eight times; their number is 0.
+/// An opening as they were searched for: a key of four bytes eight times, and the number 0.
 fn searched(k: u32) -> Opening {
     Opening { key: k.to_be_bytes().repeat(8).try_into().unwrap(), number: 0 }
 }
@@ -201,8 +201,6 @@ fn with_openings(random: &mut Random, form: Form, [first, second]: [Opening; 2])
     inputs.ids = vec![7, 8, 9];
     put_opening(&mut inputs, Slot { ballot: 0, slot: 2 }, first);
     put_opening(&mut inputs, Slot { ballot: 2, slot: 5 }, second);
-    let secrets = Secrets::new(&inputs);
-    assert_ne!(secrets.ballot_commitments(0)[2], secrets.ballot_commitments(2)[5]);
     inputs
 }
 
