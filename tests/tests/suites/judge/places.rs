@@ -140,8 +140,9 @@ impl Moves {
     }
 }
 
-/// Makes the moves on boards of three ballots, in every way, until opened and unopened ones were
-/// met; with 01 all of them stand.
+/// Makes the moves on boards of three ballots, in every way, each on several, since it depends on
+/// mask and sides what is opened: for which forms, with 01 or not, there were accepted ones and
+/// others.
 #[track_caller]
 fn check_moves(random: &mut Random, moves: impl Fn(&mut Moves)) -> BTreeSet<(bool, bool)> {
     let mut met = BTreeSet::new();
@@ -159,6 +160,7 @@ fn check_moves(random: &mut Random, moves: impl Fn(&mut Moves)) -> BTreeSet<(boo
 const OWNERS: [Owner; 5] = [Ballot(0), Ballot(2), Entry(0, 0), Entry(1, 0), Entry(1, 2)];
 
 /// Every two slots of a ballot or entry exchanged, openings and commitments: t and the values fit.
+/// What is not opened is not found.
 #[test]
 fn slots_exchanged() {
     let random = &mut Random::new(700);
