@@ -162,7 +162,8 @@ void paddockyear_keccak_f(uint64_t lanes[25]);
 /* The ballot command (197 bytes) and the receipt (32 bytes) of a vote with shares x and y and first halves u1, u2, u3. The third share
  * z = vote - x - y and the second halves v1 = x - u1, v2 = y - u2, v3 = z - u3 are worked out. keys are 192 bytes: six keys of 32 bytes, in
  * the order of the six commitments, u1, v1, u2, v2, u3, v3. The receipt is the id, most significant byte first, and the SHA3-224 of the
- * command. Form and number are those of the record that the ballot is for; the bytes do not depend on them today.
+ * command. Form, number and id are those of the record that the ballot is for: in the form of command 0C a commitment is bound to election,
+ * id and slot, and is opened by the judge nowhere else.
  * Answers 0; 3 for the modulus; 18; 10 for vote, x, y, u1, u2, u3. */
 uint32_t paddockyear_tablet(uint32_t numbered, uint32_t election, uint32_t modulus, uint32_t id, uint32_t vote, uint32_t x, uint32_t y,
                             uint32_t u1, uint32_t u2, uint32_t u3, const uint8_t *keys, size_t keys_length,
@@ -218,7 +219,8 @@ uint32_t paddockyear_split(uint32_t modulus, uint32_t n, const uint32_t *numbers
  * two as lent (one, two). Lent parts are hashed and not read otherwise.
  *
  * No two ballots may come to share a commitment, each in any of its six places: 21, tested last. With keys drawn anew for every ballot none
- * will: a commitment hashes a key and a number. Inside one ballot equal ones stand.
+ * will: a commitment hashes a key and a number, and in the form of command 0C the election's number, slot and id too, so that there no two
+ * ballots will whatever their keys. Inside one ballot equal ones stand.
  *
  * The structs and functions further down take the same in fewer arguments. */
 
