@@ -1,7 +1,7 @@
 -- What is hashed in each form, as the code has it: a key, and behind it the rest.
 use mathlib.Core.Path.{_≡_, sym, ap, _∙_}
 use mathlib.Core.List.{List, [], _∷_, _++_, append-assoc}
-use Prim.Native.Nat.{ℕ, _+_, _-_, _/_, _%_}
+use Prim.Native.Nat.{ℕ, _+_, _/_, _%_}
 use native.Mathlib.Omega.{arith}
 use lib.ListN.{length, take, drop, replicate, length-append}
 use lib.Seq.{take-at, drop-at}
@@ -57,11 +57,13 @@ module _ {out : List ℕ} (x election : ℕ) (place : Place) (w : Wrote (replica
   pub rest-taken : take 14 out ≡ behindKey x election place
   rest-taken = ap (take 14) rest-is ∙ take-at (behindKey x election place) (0 ∷ 0 ∷ []) 14 (behind-long x election place)
 
-  pub rest-short : Short 136 32 out 14
-  rest-short = record {
-    counted = omega (arith, rest-long);
-    zeros = ap (drop 14) rest-is ∙ drop-at (behindKey x election place) (0 ∷ 0 ∷ []) 14 (behind-long x election place) ∙ ap (λ (k : ℕ). replicate (k - 14) 0) (sym rest-long);
-    room = omega (arith, rest-long);
+  pub rest-short : {k : ℕ} → k ≡ 32 → Short 136 k out 14
+  rest-short {k} e = record {
+    lanes = ap (λ (n : ℕ). n % 8) e;
+    long = rest-long;
+    counted = omega arith;
+    zeros = ap (drop 14) rest-is ∙ drop-at (behindKey x election place) (0 ∷ 0 ∷ []) 14 (behind-long x election place);
+    room = omega arith;
   }
 
 -- the lowest bytes of a number are those of its remainder

@@ -26,7 +26,7 @@ pub fn in_slot(place: Place, q: usize) -> Place
     }
 }
 
-// Where a commitment is posted, as the bytes that are hashed with it: the slot, the list or 255 for a ballot, the position or the ballot's id.
+// The bytes that tell where a commitment is posted: the slot, the list or 255 for a ballot, the position or the ballot's id.
 fn put_told(out: &mut [u8], at: usize, slot: usize, list: u32, x: u32) -> usize
     requires { ⌜ at + 6 ≤ length (now out) ⌝ }
     ensures { λ r. ⌜ Went (before out) at ((bytes 1 slot ++ bytes 1 list) ++ bytes 4 x) (after out) r ⌝ }
@@ -36,6 +36,7 @@ fn put_told(out: &mut [u8], at: usize, slot: usize, list: u32, x: u32) -> usize
     wire::put4(out, b, x)
 }
 
+// .. of a place.
 fn put_place(out: &mut [u8], at: usize, place: Place) -> usize
     requires { ⌜ at + 6 ≤ length (now out) ⌝ }
     ensures { λ r. ⌜ Went (before out) at (placeBytes place) (after out) r ⌝ }

@@ -24,7 +24,7 @@ use Rattle.protocol.specs.Layout.{lists, atBallotHalf}
 use Rattle.protocol.specs.Record.{formOf, parametersOf, idOf, ballotOpeningOf, listHalfPlace, listOpeningOf, fullPlace, fullOpeningOf}
 use Rattle.protocol.specs.Judging.{judged}
 use Rattle.protocol.specs.Stands.{Stands}
-use Rattle.protocol.specs.Demand3.{Posted, by-ballot, by-entry, Shown, in-ballot-half, in-list-half, in-full-opening}
+use Rattle.protocol.specs.Demand3.{OpenedTwice, Posted, by-ballot, by-entry, Shown, in-ballot-half, in-list-half, in-full-opening}
 use Rattle.protocol.proofs.Forms.{form-numbered, form-unnumbered}
 use Rattle.protocol.proofs.Accepting.{accepts-iff}
 use Rattle.protocol.proofs.Transport.{slot-in}
@@ -162,6 +162,26 @@ same-or p q a b o o' hp hq ha hb n e = go (List-discrete ℕ-discrete (hashedByt
 pub unnumbered-same : (p : Parameters) (a b : Place) (o : List ℕ) → p .form ≡ Unnumbered → commitment p a o ≡ commitment p b o
 unfolding commitment hashedBytes
 unnumbered-same p a b o form = rw form
+
+-- different openings of one place hash different bytes
+hashed-apart : (f : Form) (a : Place) (o o' : List ℕ) → o ≢ o' → hashedBytes f a o ≢ hashedBytes f a o'
+unfolding hashedBytes
+hashed-apart Unnumbered a o o' ne e = ne e
+hashed-apart (Numbered election) a o o' ne e =
+    let tail : List ℕ = bytes 4 election ++ placeBytes a in
+    ne (front-is o o' tail tail (omega (arith, ap length e, length-append o tail, length-append o' tail)) e)
+
+-- a commitment opened in two ways is a collision, in either form
+pub twice-collides : {r₁ r₂ r₃ : List ℕ} → OpenedTwice r₁ r₂ r₃ → HashCollision
+unfolding commitment
+twice-collides {r₁} t =
+    let form = parametersOf r₁ .form in
+    record {
+      one = hashedBytes form (t .place) (t .one);
+      other = hashedBytes form (t .place) (t .other);
+      differ = hashed-apart form (t .place) (t .one) (t .other) (t .differ);
+      same = t .one-gives ∙ sym (t .other-gives);
+    }
 
 -- ---- the places of a record
 

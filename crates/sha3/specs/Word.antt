@@ -33,8 +33,10 @@ unfoldable pub putLane : List ℕ → ℕ → ℕ → ℕ → List ℕ
 putLane out i lane zero = out
 putLane out i lane (suc n) = set (putLane out i lane n) (i + n) (lane / 2 ^ (n * 8) % 256)
 
--- bytes behind a message of k bytes, of which the first n count: behind these are zeros, and a block has room for all of them
+-- 16 bytes behind a message of k bytes, which are whole lanes: the first n of them count, behind these are zeros, and a block has room for all
 pub record Short (rate k : ℕ) (b : List ℕ) (n : ℕ) : Type 0 where
-  pub counted : n ≤ length b
-  pub zeros : drop n b ≡ replicate (length b - n) 0
-  pub room : k + length b < rate
+  pub lanes : k % 8 ≡ 0
+  pub long : length b ≡ 16
+  pub counted : n ≤ 16
+  pub zeros : drop n b ≡ replicate (16 - n) 0
+  pub room : k + 16 < rate

@@ -196,8 +196,9 @@ pub fn hash_two(rate: usize, a: &[u8], b: &[u8], out: &mut [u8])
     finish_into(&mut l, two, rate, out);
 }
 
-// The digest, as long as `out`, of a message shorter than a block, in two parts: a, and the first n bytes of b. Behind these b has zeros, which
-// change no lane: so the last lane is taken at once.
+// The digest, as long as `out`, of a message shorter than a block, in two parts: a, which is whole lanes, and the first n of b's 16 bytes.
+// Behind these b has zeros, which change no lane: so two lanes are taken at once. Their places in b are fixed, so that the compiler makes
+// them of what b was written from, and no read waits for bytes that were written one by one.
 pub fn hash_short(rate: usize, a: &[u8], b: &[u8], n: usize, out: &mut [u8])
     requires { ⌜ Rate rate × ((length (now out) ≤ rate) × Short rate (length (now a)) (now b) n) ⌝ }
     ensures { λ _. ⌜ after out ≡ digest rate (length (before out)) (before a ++ take n (before b)) ⌝ }
@@ -205,7 +206,11 @@ pub fn hash_short(rate: usize, a: &[u8], b: &[u8], n: usize, out: &mut [u8])
     let s = start();
     let mut l = s.lanes;
     let fill = absorb_into(&mut l, s.fill, rate, a);
-    absorb_into(&mut l, fill, rate, b);
+    let k = fill / 8;
+    let low = word(b, 0);
+    l[k] = l[k] ^ low;
+    let high = word(b, 8);
+    l[k + 1] = l[k + 1] ^ high;
     finish_into(&mut l, fill + n, rate, out);
 }
 

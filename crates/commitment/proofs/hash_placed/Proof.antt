@@ -1,14 +1,12 @@
 -- `commitment::hash_placed` meets its contract: the digest of the key and of what is written behind it.
-use mathlib.Core.Path.{_≡_, ap, ap₂, _∙_}
+use mathlib.Core.Path.{ap, ap₂, _∙_}
 use mathlib.Core.List.{List, _++_}
 use Prim.Native.Nat.{ℕ}
 use native.Mathlib.Omega.{arith}
 use borrow.Author.Needs.{needs}
-use lib.ListN.{length}
 use Rattle.laws.specs.Bytes.{length-bytes}
 use Rattle.laws.specs.Writing.{go-on}
 use Rattle.sha3.specs.Sha3.{digest, sha3-256}
-use Rattle.sha3.specs.Word.{Short}
 use Rattle.sha3.proofs.Agree.{rate-256}
 use Rattle.commitment.proofs.Hashed.{behind-is, rest-taken, rest-short}
 use Rattle.commitment.proofs.hash_placed.Statement.{statement}
@@ -24,8 +22,7 @@ hash-short-requires : tie.Need-hash-short-requires
 hash-short-requires c κs =
     let s = c .before .before .before .before .before .before .before .before .before .before .before .before .before in
     let went = go-on (go-on (c .before .before .before .before .before .before .before .before .before .put4 .ensures) (c .before .before .before .before .before .before .put42 .ensures)) (c .before .before .before .put-place .ensures) in
-    let short = rest-short (s .args .x) (s .args .election) (s .args .place) (went .wrote) in
-    (rate-256, (omega arith, record { counted = short .counted; zeros = short .zeros; room = omega (arith, short .room) }))
+    (rate-256, (omega arith, rest-short (s .args .x) (s .args .election) (s .args .place) (went .wrote) (s .pre .0)))
 
 returns : tie.Need-returns
 unfolding sha3-256
