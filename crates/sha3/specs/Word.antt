@@ -33,7 +33,7 @@ unfoldable pub putLane : List ℕ → ℕ → ℕ → ℕ → List ℕ
 putLane out i lane zero = out
 putLane out i lane (suc n) = set (putLane out i lane n) (i + n) (lane / 2 ^ (n * 8) % 256)
 
--- 16 bytes behind a message of k bytes, which are whole lanes: the first n of them count, behind these are zeros, and a block has room for all
+-- 16 bytes behind a message of k bytes, which are whole lanes: the first n of them count, behind these are zeros, and all fit into a block
 pub record Short (rate k : ℕ) (b : List ℕ) (n : ℕ) : Type 0 where
   pub lanes : k % 8 ≡ 0
   pub long : length b ≡ 16
