@@ -101,12 +101,15 @@ tail-length : (election : ℕ) (place : Place) → length (bytes 4 election ++ p
 tail-length election place = omega (arith, length-append (bytes 4 election) (placeBytes place), length-bytes 4 election, length-place place)
 
 -- 36 bytes with 01, and 46 with 0C: one block of SHA3-256 either way
-pub length-hashed : (form : Form) (place : Place) (o : List ℕ) → length o ≡ 36 → (length (hashedBytes form place o) ≡ 36) ⊎ (length (hashedBytes form place o) ≡ 46)
+pub length-unnumbered : (place : Place) (o : List ℕ) → length o ≡ 36 → length (hashedBytes Unnumbered place o) ≡ 36
 unfolding hashedBytes
-length-hashed Unnumbered place o n = inl n
-length-hashed (Numbered election) place o n = inr (omega (arith, length-append o (bytes 4 election ++ placeBytes place), tail-length election place))
+length-unnumbered place o n = n
 
--- with 0C, the bytes that are hashed tell election, place and opening: "for every opening, different places give different hash inputs"
+pub length-numbered : (election : ℕ) (place : Place) (o : List ℕ) → length o ≡ 36 → length (hashedBytes (Numbered election) place o) ≡ 46
+unfolding hashedBytes
+length-numbered election place o n = omega (arith, length-append o (bytes 4 election ++ placeBytes place), tail-length election place)
+
+-- with 0C, the bytes that are hashed tell election, place and opening: for all openings different places give different hash inputs
 pub numbered-tells : (election election' : ℕ) (a b : Place) (o o' : List ℕ) → election < 4294967296 → election' < 4294967296 → Nameable a → Nameable b → length o ≡ length o'
     → hashedBytes (Numbered election) a o ≡ hashedBytes (Numbered election') b o' → (election ≡ election') × ((a ≡ b) × (o ≡ o'))
 unfolding hashedBytes

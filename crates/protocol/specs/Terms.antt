@@ -82,7 +82,7 @@ placeBytes (InBallot id slot) = (bytes 1 slot ++ bytes 1 255) ++ bytes 4 id
 placeBytes (InEntry list position slot) = (bytes 1 slot ++ bytes 1 list) ++ bytes 4 position
 
 -- what is hashed of an opening: with 01 "an opening's 36 bytes", and with 0C "key, number, election number 4, slot 1 .."
-unfoldable pub hashedBytes : Form → Scheme
+unfoldable pub hashedBytes : Form → Place → List ℕ → List ℕ
 hashedBytes Unnumbered place o = o
 hashedBytes (Numbered election) place o = o ++ (bytes 4 election ++ placeBytes place)
 
