@@ -201,7 +201,7 @@ ballotId (InEntry list position slot) = 0
 
 module _ (s : Slices) where
   -- with 01, two ballots of which one has the other's opening in some slot are refused: equal openings have equal commitments. With 0C they
-  -- have other ids, and are not (`numbered-original` in `Places`).
+  -- have other ids, and are not (`numbered-original`).
   pub copied-inputs : s .parameters .form ≡ Unnumbered → (i j a b : ℕ) → i < j → j < s .parameters .ballots → a < 6 → b < 6
       → ballotOpening (inputsOf s) i a ≡ ballotOpening (inputsOf s) j b → allOriginal s ≡ false
   unfolding postedBoard inputsOf

@@ -1,9 +1,9 @@
 -- Document 02, item 8: "Officers want a commitment to be meaningless anywhere but where it was posted." Of a record with 0C the bytes that are
 -- hashed tell the election, the place and the opening; those of a record with 01 tell the opening, and that it is one with 01. So one
 -- commitment that stands in two places, opened in both, shows two different inputs of SHA3-256 with one digest.
-use mathlib.Core.Path.{_≡_, refl, sym, ap, subst, _∙_}
+use mathlib.Core.Path.{_≡_, refl, sym, ap, _∙_}
 use mathlib.Core.Logic.{_≢_, _⊎_, inl, inr}
-use mathlib.Core.Bool.{Bool, true, false}
+use mathlib.Core.Bool.{false}
 use mathlib.Core.List.{List, _++_, List-discrete}
 use Prim.Native.Nat.{ℕ, zero, suc, _+_, _*_, _^_, _≤_, _<_}
 use native.Mathlib.Decide.{ℕ-discrete}
