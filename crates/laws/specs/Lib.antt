@@ -20,3 +20,6 @@ pub mod Spans
 pub mod Lent
 pub mod Marks
 pub mod Counting
+pub mod Subsets
+pub mod Binomials
+pub mod Distances

@@ -25,11 +25,11 @@ clearBefore mask l = sum (λ i. 1 - bit mask i) l
 
 -- ---- laws
 
-bit-zero : (a : ℕ) → bit a 0 ≡ a % 2
+pub bit-zero : (a : ℕ) → bit a 0 ≡ a % 2
 bit-zero a = ap (λ (x : ℕ). x % 2) (div-one a)
 
 -- bit i + 1 of a mask is bit i of its half
-bit-suc : (a i : ℕ) → bit a (suc i) ≡ bit (a / 2) i
+pub bit-suc : (a i : ℕ) → bit a (suc i) ≡ bit (a / 2) i
 bit-suc a i = ap (λ (x : ℕ). x % 2) (ap (λ (x : ℕ). a / 2 ^ x) (sym (one-add i)) ∙ sym (shr-shr a 1 i))
 
 -- a bit below k that is set in a and not in b
@@ -146,3 +146,18 @@ below-power (suc mask) = omega (arith, below-power mask)
 -- a mask is below 2 ^ k exactly if no bit at k or above is set
 pub bits-iff : (k mask : ℕ) → (mask < 2 ^ k) ↔ ((i : ℕ) → k ≤ i → bit mask i ≡ 0)
 bits-iff k mask = (bits-below k mask, below-bits mask k mask (below-power mask))
+
+-- ---- a power of two added to a smaller number: bit n is set, and those below are as they were
+
+pub bit-under : (n j x : ℕ) → j < n → bit (2 ^ n + x) j ≡ bit x j
+bit-under zero j x l = absurd (omega arith)
+bit-under (suc n) zero x l = bit-zero (2 ^ suc n + x) ∙ omega arith ∙ sym (bit-zero x)
+bit-under (suc n) (suc j) x l =
+    let h : (2 ^ suc n + x) / 2 ≡ 2 ^ n + x / 2 = omega arith in
+    bit-suc (2 ^ suc n + x) j ∙ ap (λ (y : ℕ). bit y j) h ∙ bit-under n j (x / 2) (omega arith) ∙ sym (bit-suc x j)
+
+pub bit-top : (n x : ℕ) → x < 2 ^ n → bit (2 ^ n + x) n ≡ 1
+bit-top zero x l = bit-zero (2 ^ 0 + x) ∙ omega arith
+bit-top (suc n) x l =
+    let h : (2 ^ suc n + x) / 2 ≡ 2 ^ n + x / 2 = omega arith in
+    bit-suc (2 ^ suc n + x) n ∙ ap (λ (y : ℕ). bit y n) h ∙ bit-top n (x / 2) (omega arith)

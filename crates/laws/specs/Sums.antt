@@ -1,9 +1,9 @@
 -- Sums and counts below n.
-use mathlib.Core.Path.{_≡_, refl, sym, ap, ap₂}
+use mathlib.Core.Path.{_≡_, refl, sym, ap, ap₂, _∙_}
 use mathlib.Core.Logic.{_≢_}
 use mathlib.Core.Bool.{Bool, true, false}
-use Prim.Native.Nat.{ℕ, zero, suc, _+_, _-_, _<_}
-use native.Mathlib.Nat.{not-suc-le-zero, le-refl}
+use Prim.Native.Nat.{ℕ, zero, suc, _+_, _-_, _*_, _≤_, _<_}
+use native.Mathlib.Nat.{not-suc-le-zero, le-refl, add-suc}
 use native.Mathlib.Decide.{ℕ-discrete}
 use native.Mathlib.Omega.{arith}
 use lib.Dec.{eqb}
@@ -43,3 +43,38 @@ sum-change f g (suc n) i l h = go (ℕ-discrete i n) (λ k. sum-change f g n i k
 pub sum-first : (f : ℕ → ℕ) (n : ℕ) → sum f (suc n) ≡ f 0 + sum (λ j. f (suc j)) n
 sum-first f zero = omega arith
 sum-first f (suc n) = omega (arith, sum-first f n)
+
+-- a sum of sums
+pub sum-add : (f g : ℕ → ℕ) (n : ℕ) → sum (λ i. f i + g i) n ≡ sum f n + sum g n
+sum-add f g zero = omega arith
+sum-add f g (suc n) = omega (arith, sum-add f g n)
+
+pub sum-none : (f : ℕ → ℕ) (n : ℕ) → ((i : ℕ) → i < n → f i ≡ 0) → sum f n ≡ 0
+sum-none f zero h = refl
+sum-none f (suc n) h = omega (arith, h n (le-refl (suc n)), sum-none f n (λ i l. h i (omega arith)))
+
+pub sum-most : (f g : ℕ → ℕ) (n : ℕ) → ((i : ℕ) → i < n → f i ≤ g i) → sum f n ≤ sum g n
+sum-most f g zero h = omega arith
+sum-most f g (suc n) h = omega (arith, h n (le-refl (suc n)), sum-most f g n (λ i l. h i (omega arith)))
+
+-- one summand is at most the sum
+pub sum-one : (f : ℕ → ℕ) (n i : ℕ) → i < n → f i ≤ sum f n
+sum-one f zero i l = absurd (not-suc-le-zero l)
+sum-one f (suc n) i l = go (ℕ-discrete i n) (sum-one f n i)
+  where
+    go : Dec (i ≡ n) → (i < n → f i ≤ sum f n) → f i ≤ sum f n + f n
+    go (yes e) ih = omega (arith, ap f e)
+    go (no ne) ih = omega (arith, ih (omega arith))
+
+-- all but one summand are 0
+pub sum-only : (f : ℕ → ℕ) (n i : ℕ) → i < n → ((j : ℕ) → j < n → j ≢ i → f j ≡ 0) → sum f n ≡ f i
+sum-only f n i l h = omega (arith, sum-change f (λ j. 0) n i l h, sum-none (λ j. 0) n (λ j k. refl))
+
+pub sum-times : (f : ℕ → ℕ) (c n : ℕ) → sum (λ i. f i * c) n ≡ sum f n * c
+sum-times f c zero = omega arith
+sum-times f c (suc n) = omega (arith, sum-times f c n)
+
+-- the first a summands, and b more
+pub sum-join : (f : ℕ → ℕ) (a b : ℕ) → sum f (a + b) ≡ sum f a + sum (λ i. f (a + i)) b
+sum-join f a zero = let e : a + 0 ≡ a = omega arith in ap (sum f) e ∙ omega arith
+sum-join f a (suc b) = ap (sum f) (add-suc a b) ∙ omega (arith, sum-join f a b)

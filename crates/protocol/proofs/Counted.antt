@@ -50,11 +50,11 @@ pub record Clash (b : Board) (k : Comparison) (d : Disclosure) (k₃ : Compariso
   pub differ : d .listOpening list ballot slot ≢ d₃ .fullOpening list (k .position list ballot) (2 * slot + d .side ballot)
 
 -- every opening of list l that d shows is the one that d₃ shows
-abbrev Alike : Board → Comparison → Disclosure → Disclosure → ℕ → Type 0
+abbrev pub Alike : Board → Comparison → Disclosure → Disclosure → ℕ → Type 0
 Alike b k d d₃ l = (j : ℕ) → j < b .parameters .ballots → Half (d₃ .fullOpening l (k .position l j)) (d .side j) (d .listOpening l j)
 
 module _ {E : Type 0} (b : Board) (k : Comparison) (d : Disclosure) (k₃ : Comparison) (d₃ : Disclosure) (l : ℕ) where
-  alike-or : l < lists (b .parameters) → bit (k .mask) l ≡ 1 → bit (k₃ .mask) l ≡ 0 → (Clash b k d k₃ d₃ → E) → Alike b k d d₃ l ⊎ E
+  pub alike-or : l < lists (b .parameters) → bit (k .mask) l ≡ 1 → bit (k₃ .mask) l ≡ 0 → (Clash b k d k₃ d₃ → E) → Alike b k d d₃ l ⊎ E
   alike-or ll set clear twice =
       all-or (b .parameters .ballots) (λ j lj. all-or 3 (λ c lc. at j lj c lc (List-discrete ℕ-discrete (mine j c) (third j c))))
     where
@@ -72,7 +72,7 @@ module _ {E : Type 0} (b : Board) (k : Comparison) (d : Disclosure) (k₃ : Comp
 -- ---- the votes
 
 -- the value that d₃ opens at position i of list l
-abbrev value : Board → Disclosure → ℕ → ℕ → ℕ
+abbrev pub value : Board → Disclosure → ℕ → ℕ → ℕ
 value b d₃ l i = six (d₃ .fullOpening l i) % b .parameters .modulus
 
 module _ {commit : Scheme} (b : Board) (k : Comparison) (d₃ : Disclosure) (l : ℕ) (ll : l < lists (b .parameters)) (set : bit (k .mask) l ≡ 1) where
@@ -86,7 +86,7 @@ module _ {commit : Scheme} (b : Board) (k : Comparison) (d₃ : Disclosure) (l :
       (v .first-halves-agree l j ll set lj sd) (w .second-halves-agree l j ll set lj se))
 
   -- on whichever side d shows it
-  either : (d e : Disclosure) → ValidOver commit b k d → ValidOver commit b k e → (o : ℕ → List ℕ) (j : ℕ) → j < b .parameters .ballots → d .side j ≢ e .side j
+  pub either : (d e : Disclosure) → ValidOver commit b k d → ValidOver commit b k e → (o : ℕ → List ℕ) (j : ℕ) → j < b .parameters .ballots → d .side j ≢ e .side j
       → Half o (d .side j) (d .ballotOpening j) → Half o (e .side j) (e .ballotOpening j)
       → Alike b k d d₃ l → Alike b k e d₃ l → value b d₃ l (k .position l j) ≡ six o % b .parameters .modulus
   either d e v w o j lj ne hd he ad ae = go (v .sides j lj) (w .sides j lj) (ℕ-discrete (d .side j) 0)

@@ -45,3 +45,5 @@ pub mod Unfitting
 pub mod Answered
 pub mod Forms
 pub mod Copies
+pub mod Differing
+pub mod Throws

@@ -22,13 +22,13 @@ use Rattle.protocol.proofs.Counted.{rank-below, Clash, vote, counted}
 
 -- ---- what a record says, its parameters given
 
-abbrev boardAt : Parameters → List ℕ → Board
+abbrev pub boardAt : Parameters → List ℕ → Board
 boardAt p r = boardWith p (idOf p r) (ballotCommitmentOf p r) (entryCommitmentOf p r)
 
-abbrev comparisonAt : Parameters → List ℕ → Comparison
+abbrev pub comparisonAt : Parameters → List ℕ → Comparison
 comparisonAt p r = comparisonWith (firstDiceOf p r) (maskOf p r) (positionOf p r) (shiftOf p r)
 
-abbrev disclosureAt : Parameters → List ℕ → Disclosure
+abbrev pub disclosureAt : Parameters → List ℕ → Disclosure
 disclosureAt p r =
     record {
       dice = secondDiceOf p r;
@@ -40,7 +40,7 @@ disclosureAt p r =
     }
 
 -- a proof, over the board of a record with the same bytes before the first dice
-over-board : {commit : Scheme} (p : Parameters) (r s : List ℕ) → parametersOf s ≡ p → take (atFirstDice p) s ≡ take (atFirstDice p) r → StandsOver commit s
+pub over-board : {commit : Scheme} (p : Parameters) (r s : List ℕ) → parametersOf s ≡ p → take (atFirstDice p) s ≡ take (atFirstDice p) r → StandsOver commit s
     → ValidOver commit (boardAt p r) (comparisonAt p s) (disclosureAt p s)
 over-board {commit} p r s e alike h =
     board-moved p (idOf p s) (idOf p r) (ballotCommitmentOf p s) (ballotCommitmentOf p r) (entryCommitmentOf p s) (entryCommitmentOf p r) (comparisonAt p s) (disclosureAt p s)
@@ -48,19 +48,19 @@ over-board {commit} p r s e alike h =
     (subst (λ (x : Parameters). ValidOver commit (boardAt x s) (comparisonAt x s) (disclosureAt x s)) e (h .valid))
 
 -- and over its comparison, with the same bytes before the second dice
-over-comparison : {commit : Scheme} (p : Parameters) (r s : List ℕ) (d : Disclosure) → take (atSecondDice p) s ≡ take (atSecondDice p) r → ValidOver commit (boardAt p r) (comparisonAt p s) d
-    → ValidOver commit (boardAt p r) (comparisonAt p r) d
-over-comparison {commit} p r s d alike v =
-    comparison-moved (boardAt p r) (firstDiceOf p r) (maskOf p r) (positionOf p s) (positionOf p r) (shiftOf p s) (shiftOf p r) d
+pub over-comparison : {commit : Scheme} (p : Parameters) (q r s : List ℕ) (d : Disclosure) → take (atSecondDice p) s ≡ take (atSecondDice p) r
+    → ValidOver commit (boardAt p q) (comparisonAt p s) d → ValidOver commit (boardAt p q) (comparisonAt p r) d
+over-comparison {commit} p q r s d alike v =
+    comparison-moved (boardAt p q) (firstDiceOf p r) (maskOf p r) (positionOf p s) (positionOf p r) (shiftOf p s) (shiftOf p r) d
     (λ l j ll set lj. position-alike p s r alike l j (rank-below w l ll set) lj) (λ l j ll set lj. shift-alike p s r alike l j (rank-below w l ll set) lj) w
   where
-    w : ValidOver commit (boardAt p r) (comparisonWith (firstDiceOf p r) (maskOf p r) (positionOf p s) (shiftOf p s)) d
+    w : ValidOver commit (boardAt p q) (comparisonWith (firstDiceOf p r) (maskOf p r) (positionOf p s) (shiftOf p s)) d
     w = rw (dice-alike p s r alike, mask-alike p s r alike) at v
 
 -- ---- what is shown
 
 module _ (p : Parameters) (r : List ℕ) (e : parametersOf r ≡ p) where
-  half-shown : (l j c : ℕ) → l < lists p → bit (maskOf p r) l ≡ 1 → j < p .ballots → c < 3
+  pub half-shown : (l j c : ℕ) → l < lists p → bit (maskOf p r) l ≡ 1 → j < p .ballots → c < 3
       → Shown r (InEntry l (positionOf p r l j) (2 * c + sideOf p r j)) (listOpeningOf p r l j c)
   half-shown l j c =
       subst
@@ -68,16 +68,16 @@ module _ (p : Parameters) (r : List ℕ) (e : parametersOf r ≡ p) where
       → Shown r (InEntry l (positionOf x r l j) (2 * c + sideOf x r j)) (listOpeningOf x r l j c))
       e (in-list-half l j c)
 
-  full-shown : (l i q : ℕ) → l < lists p → bit (maskOf p r) l ≡ 0 → i < p .ballots → q < 6 → Shown r (InEntry l i q) (fullOpeningOf p r l i q)
+  pub full-shown : (l i q : ℕ) → l < lists p → bit (maskOf p r) l ≡ 0 → i < p .ballots → q < 6 → Shown r (InEntry l i q) (fullOpeningOf p r l i q)
   full-shown l i q =
       subst (λ (x : Parameters). l < lists x → bit (maskOf x r) l ≡ 0 → i < x .ballots → q < 6 → Shown r (InEntry l i q) (fullOpeningOf x r l i q)) e (in-full-opening l i q)
 
-  entry-posted : (l i q : ℕ) → l < lists p → i < p .ballots → q < 6 → Posted r (InEntry l i q) (entryCommitmentOf p r l i q)
+  pub entry-posted : (l i q : ℕ) → l < lists p → i < p .ballots → q < 6 → Posted r (InEntry l i q) (entryCommitmentOf p r l i q)
   entry-posted l i q =
       subst (λ (x : Parameters). l < lists x → i < x .ballots → q < 6 → Posted r (InEntry l i q) (entryCommitmentOf x r l i q)) e (by-entry l i q)
 
 -- two openings that differ, shown by a record r of the pair and by the third
-clash-twice : {commit : Scheme} (p : Parameters) (r₁ r₂ r₃ r : List ℕ) → parametersOf r₁ ≡ p → parametersOf r ≡ p → parametersOf r₃ ≡ p
+pub clash-twice : {commit : Scheme} (p : Parameters) (r₁ r₂ r₃ r : List ℕ) → parametersOf r₁ ≡ p → parametersOf r ≡ p → parametersOf r₃ ≡ p
     → take (atSecondDice p) r ≡ take (atSecondDice p) r₁
     → ValidOver commit (boardAt p r₁) (comparisonAt p r₁) (disclosureAt p r) → ValidOver commit (boardAt p r₁) (comparisonAt p r₃) (disclosureAt p r₃)
     → ((place : Place) (o : List ℕ) → Shown r place o → Shown r₁ place o ⊎ (Shown r₂ place o ⊎ Shown r₃ place o))
@@ -172,7 +172,7 @@ sound-over commit r₁ r₂ r₃ h₁ h₂ h₃ a₂ a₃ a sides masks =
     v₁ = h₁ .valid
 
     v₂ : ValidOver commit (boardAt p r₁) (comparisonAt p r₁) (disclosureAt p r₂)
-    v₂ = over-comparison p r₁ r₂ (disclosureAt p r₂) second₂ (over-board p r₁ r₂ e₂ first₂ h₂)
+    v₂ = over-comparison p r₁ r₁ r₂ (disclosureAt p r₂) second₂ (over-board p r₁ r₂ e₂ first₂ h₂)
 
     v₃ : ValidOver commit (boardAt p r₁) (comparisonAt p r₃) (disclosureAt p r₃)
     v₃ = over-board p r₁ r₃ e₃ first₃ h₃

@@ -17,3 +17,4 @@ pub mod Election
 pub mod Broken
 pub mod Order
 pub mod Unfit
+pub mod Throws

@@ -1,0 +1,97 @@
+-- Beyond the demands: how many throws of the dice a false result can pass. Demand 3 speaks of three records, this of what would be answered
+-- to every throw. The claim (`proofs/Throws`): fix the bytes before command 04. To each throw, a choice of m lists out of 2m and of n sides,
+-- whoever posts answers with a record or not at all. What he answers has that mask, those sides and those bytes, and for one mask the same
+-- bytes before command 06. Then two accepted answers show a posted commitment opened in two ways; or of all throws at most
+-- max (2^n, C 2^(n - k)) have an accepted answer that announces votes which differ in at least k places from what the ballots commit, C being
+-- the number of choices of lists.
+use mathlib.Core.Path.{_≡_}
+use mathlib.Core.Logic.{_≢_}
+use mathlib.Core.Bool.{Bool, true, false}
+use mathlib.Core.List.{List}
+use Prim.Native.Nat.{ℕ, _-_, _*_, _^_, _<_, max}
+use Rattle.laws.specs.Tests.{below, atMost, _and_}
+use Rattle.laws.specs.Masks.{bit}
+use Rattle.laws.specs.Sums.{sum}
+use Rattle.laws.specs.Subsets.{manyBelow}
+use Rattle.laws.specs.Binomials.{binomial}
+use Rattle.laws.specs.Distances.{distance}
+use Rattle.protocol.specs.declared.Parameters.{Parameters}
+use Rattle.protocol.specs.Answers.{Answer, done, refused}
+use Rattle.protocol.specs.Layout.{lists}
+use Rattle.protocol.specs.Record.{parametersOf, maskOf, sideOf, voteOf}
+use Rattle.protocol.specs.Rules.{rightShape}
+use Rattle.protocol.specs.Judging.{judged}
+use Rattle.protocol.specs.Demand3.{beforeFirstDice, beforeSecondDice, Commits, OpenedTwice}
+
+-- ---- throws and answers
+
+-- what is answered to the throw of a mask and of sides, bit j of which is the side of ballot j. Where nothing is answered, it is a record that
+-- is refused, as the empty one.
+abbrev pub Strategy : Type 0
+Strategy = ℕ → ℕ → List ℕ
+
+unfoldable pub isDone : Answer → Bool
+isDone (done values) = true
+isDone (refused number) = false
+
+module _ (p : Parameters) where
+  -- "a choice of m lists out of 2m and of n sides"
+  unfoldable pub isThrow : ℕ → ℕ → Bool
+  isThrow mask sides = rightShape (p .compared) mask and below sides (2 ^ p .ballots)
+
+  -- how many throws meet a test: of all masks of 2m bits and all sides
+  unfoldable pub throws : (ℕ → ℕ → Bool) → ℕ
+  throws test = sum (λ mask. manyBelow (λ sides. isThrow mask sides and test mask sides) (2 ^ p .ballots)) (2 ^ lists p)
+
+  unfoldable pub allThrows : ℕ
+  allThrows = throws (λ mask sides. true)
+
+  -- C
+  unfoldable pub choices : ℕ
+  choices = binomial (lists p) (p .compared)
+
+  -- "at most max (2^n, C 2^(n - k))"
+  unfoldable pub mostFalse : ℕ → ℕ
+  mostFalse k = max (2 ^ p .ballots) (choices * 2 ^ (p .ballots - k))
+
+-- plain judging accepts the answer
+unfoldable pub accepts : Strategy → ℕ → ℕ → Bool
+accepts answer mask sides = isDone (judged false (answer mask sides))
+
+-- .. and it announces votes that differ from these in at least k places
+unfoldable pub acceptsFalse : Parameters → Strategy → (ℕ → ℕ) → ℕ → ℕ → ℕ → Bool
+acceptsFalse p answer votes k mask sides =
+    accepts answer mask sides and atMost k (distance (p .modulus) (voteOf p (answer mask sides)) votes (p .ballots))
+
+-- ---- the answers to all throws over one board, the bytes before command 04
+
+module _ (board : List ℕ) (answer : Strategy) where
+  -- the throws whose answer is accepted
+  pub record Passed (mask sides : ℕ) : Type 0 where
+    pub thrown : isThrow (parametersOf board) mask sides ≡ true
+    pub accepted : accepts answer mask sides ≡ true
+
+  pub record Family : Type 0 where
+    -- "those bytes"
+    pub boards : (mask sides : ℕ) → Passed mask sides → beforeFirstDice (answer mask sides) ≡ board
+    -- "that mask, those sides"
+    pub masks : (mask sides : ℕ) → Passed mask sides → maskOf (parametersOf board) (answer mask sides) ≡ mask
+    pub sides : (mask sides j : ℕ) → Passed mask sides → j < parametersOf board .ballots
+        → sideOf (parametersOf board) (answer mask sides) j ≡ bit sides j
+    -- "for one mask the same bytes before command 06": links know nothing of the sides
+    pub links : (mask one other : ℕ) → Passed mask one → Passed mask other → beforeSecondDice (answer mask one) ≡ beforeSecondDice (answer mask other)
+
+  -- "what the ballots commit": votes that are the sum of a ballot's six numbers wherever two accepted answers show both of its sides
+  pub record Fits (votes : ℕ → ℕ) : Type 0 where
+    pub commits : (mask₁ sides₁ mask₂ sides₂ j : ℕ) → Passed mask₁ sides₁ → Passed mask₂ sides₂ → j < parametersOf board .ballots
+        → bit sides₁ j ≢ bit sides₂ j → Commits (answer mask₁ sides₁) (answer mask₂ sides₂) j (votes j)
+
+  -- "two accepted answers show a posted commitment opened in two ways"
+  pub record AnswersTwice : Type 0 where
+    pub mask₁ : ℕ
+    pub sides₁ : ℕ
+    pub mask₂ : ℕ
+    pub sides₂ : ℕ
+    pub passed₁ : Passed mask₁ sides₁
+    pub passed₂ : Passed mask₂ sides₂
+    pub opened : OpenedTwice (answer mask₁ sides₁) (answer mask₁ sides₁) (answer mask₂ sides₂)
