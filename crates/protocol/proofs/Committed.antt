@@ -25,11 +25,11 @@ both d e j q = pick (equal (q % 2) (d .side j)) (d .ballotOpening j (q / 2)) (e 
 -- ---- the six openings are those shown
 
 module _ (d e : Disclosure) (j : ℕ) where
-  on-side : (q c : ℕ) → q % 2 ≡ d .side j → q / 2 ≡ c → both d e j q ≡ d .ballotOpening j c
+  pub on-side : (q c : ℕ) → q % 2 ≡ d .side j → q / 2 ≡ c → both d e j q ≡ d .ballotOpening j c
   unfolding both
   on-side q c s h = rw (is-equal s, h)
 
-  off-side : (q c : ℕ) → q % 2 ≢ d .side j → q / 2 ≡ c → both d e j q ≡ e .ballotOpening j c
+  pub off-side : (q c : ℕ) → q % 2 ≢ d .side j → q / 2 ≡ c → both d e j q ≡ e .ballotOpening j c
   unfolding both
   off-side q c s h = rw (not-equal s, h)
 

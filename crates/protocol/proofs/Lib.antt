@@ -47,3 +47,4 @@ pub mod Forms
 pub mod Copies
 pub mod Differing
 pub mod Throws
+pub mod Fittable

@@ -14,7 +14,7 @@ use Rattle.protocol.specs.Terms.{Scheme}
 use Rattle.protocol.specs.Layout.{lists, atFirstDice, atSecondDice}
 use Rattle.protocol.specs.Record.{Board, Comparison, Disclosure, parametersOf, idOf, ballotCommitmentOf, entryCommitmentOf, firstDiceOf, maskOf, positionOf, shiftOf, secondDiceOf, sideOf, ballotOpeningOf, listOpeningOf, voteOf, fullOpeningOf}
 use Rattle.protocol.specs.Stands.{ValidOver, StandsOver}
-use Rattle.protocol.specs.Demand3.{beforeFirstDice, beforeSecondDice, CommitsOver, Posted, by-entry, Shown, in-list-half, in-full-opening, OpenedTwiceOver, AnnouncesOver}
+use Rattle.protocol.specs.Demand3.{beforeFirstDice, beforeSecondDice, CommitsOver, Posted, by-ballot, by-entry, Shown, in-ballot-half, in-list-half, in-full-opening, OpenedTwiceOver, AnnouncesOver}
 use Rattle.protocol.proofs.Alike.{parameters-alike, id-alike, ballot-alike, entry-alike, dice-alike, mask-alike, position-alike, shift-alike}
 use Rattle.protocol.proofs.Transport.{slot-in, boardWith, board-moved, comparisonWith, comparison-moved}
 use Rattle.protocol.proofs.Committed.{both, both-one, both-other, both-give}
@@ -60,7 +60,14 @@ over-comparison {commit} p q r s d alike v =
 -- ---- what is shown
 
 module _ (p : Parameters) (r : List ℕ) (e : parametersOf r ≡ p) where
-  pub half-shown : (l j c : ℕ) → l < lists p → bit (maskOf p r) l ≡ 1 → j < p .ballots → c < 3
+  pub ballot-half-shown : (j c : ℕ) → j < p .ballots → c < 3 → Shown r (InBallot (idOf p r j) (2 * c + sideOf p r j)) (ballotOpeningOf p r j c)
+  ballot-half-shown j c =
+      subst (λ (x : Parameters). j < x .ballots → c < 3 → Shown r (InBallot (idOf x r j) (2 * c + sideOf x r j)) (ballotOpeningOf x r j c)) e (in-ballot-half j c)
+
+  pub ballot-posted : (j q : ℕ) → j < p .ballots → q < 6 → Posted r (InBallot (idOf p r j) q) (ballotCommitmentOf p r j q)
+  ballot-posted j q = subst (λ (x : Parameters). j < x .ballots → q < 6 → Posted r (InBallot (idOf x r j) q) (ballotCommitmentOf x r j q)) e (by-ballot j q)
+
+  half-shown : (l j c : ℕ) → l < lists p → bit (maskOf p r) l ≡ 1 → j < p .ballots → c < 3
       → Shown r (InEntry l (positionOf p r l j) (2 * c + sideOf p r j)) (listOpeningOf p r l j c)
   half-shown l j c =
       subst
@@ -68,11 +75,11 @@ module _ (p : Parameters) (r : List ℕ) (e : parametersOf r ≡ p) where
       → Shown r (InEntry l (positionOf x r l j) (2 * c + sideOf x r j)) (listOpeningOf x r l j c))
       e (in-list-half l j c)
 
-  pub full-shown : (l i q : ℕ) → l < lists p → bit (maskOf p r) l ≡ 0 → i < p .ballots → q < 6 → Shown r (InEntry l i q) (fullOpeningOf p r l i q)
+  full-shown : (l i q : ℕ) → l < lists p → bit (maskOf p r) l ≡ 0 → i < p .ballots → q < 6 → Shown r (InEntry l i q) (fullOpeningOf p r l i q)
   full-shown l i q =
       subst (λ (x : Parameters). l < lists x → bit (maskOf x r) l ≡ 0 → i < x .ballots → q < 6 → Shown r (InEntry l i q) (fullOpeningOf x r l i q)) e (in-full-opening l i q)
 
-  pub entry-posted : (l i q : ℕ) → l < lists p → i < p .ballots → q < 6 → Posted r (InEntry l i q) (entryCommitmentOf p r l i q)
+  entry-posted : (l i q : ℕ) → l < lists p → i < p .ballots → q < 6 → Posted r (InEntry l i q) (entryCommitmentOf p r l i q)
   entry-posted l i q =
       subst (λ (x : Parameters). l < lists x → i < x .ballots → q < 6 → Posted r (InEntry l i q) (entryCommitmentOf x r l i q)) e (by-entry l i q)
 
@@ -124,8 +131,8 @@ clash-twice p r₁ r₂ r₃ r e₁ e e₃ alike v v₃ shown t = record {
 -- ---- what is committed
 
 -- over any parameters that are those of both records
-commits : {commit : Scheme} (p : Parameters) (r₁ r₂ : List ℕ) → parametersOf r₁ ≡ p → parametersOf r₂ ≡ p
-    → ValidOver commit (boardAt p r₁) (comparisonAt p r₁) (disclosureAt p r₁) → ValidOver commit (boardAt p r₁) (comparisonAt p r₁) (disclosureAt p r₂)
+pub commits : {commit : Scheme} {k₁ k₂ : Comparison} (p : Parameters) (r₁ r₂ : List ℕ) → parametersOf r₁ ≡ p → parametersOf r₂ ≡ p
+    → ValidOver commit (boardAt p r₁) k₁ (disclosureAt p r₁) → ValidOver commit (boardAt p r₁) k₂ (disclosureAt p r₂)
     → (j : ℕ) → j < p .ballots → sideOf p r₁ j ≢ sideOf p r₂ j → CommitsOver commit r₁ r₂ j (vote (boardAt p r₁) (disclosureAt p r₁) (disclosureAt p r₂) j)
 commits {commit} p r₁ r₂ e₁ e₂ v w j lj ne = record {
   openings = o;

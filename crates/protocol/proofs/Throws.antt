@@ -65,20 +65,20 @@ thrown-iff p mask sides = (λ e. simp rules at e, λ t. simp rules t)
 
 module _ (board : List ℕ) (answer : Strategy) (f : Family board answer) where
   -- the test of whether a throw passes
-  passes : ℕ → ℕ → Bool
+  pub passes : ℕ → ℕ → Bool
   passes mask sides = isThrow (parametersOf board) mask sides and accepts answer mask sides
 
-  passes-iff : (mask sides : ℕ) → (passes mask sides ≡ true) ↔ Passed board answer mask sides
+  pub passes-iff : (mask sides : ℕ) → (passes mask sides ≡ true) ↔ Passed board answer mask sides
   unfolding passes
   passes-iff mask sides =
       (λ e. let t = and-iff (isThrow (parametersOf board) mask sides) (accepts answer mask sides) .0 e in record { thrown = t .0; accepted = t .1 },
       λ h. and-iff (isThrow (parametersOf board) mask sides) (accepts answer mask sides) .1 (h .thrown, h .accepted))
 
   module _ (mask sides : ℕ) (h : Passed board answer mask sides) where
-    its-parameters : parametersOf (answer mask sides) ≡ parametersOf board
+    pub its-parameters : parametersOf (answer mask sides) ≡ parametersOf board
     its-parameters = parameters-of board (answer mask sides) (f .boards mask sides h)
 
-    first-alike : take (atFirstDice (parametersOf board)) (answer mask sides) ≡ take (atFirstDice (parametersOf board)) board
+    pub first-alike : take (atFirstDice (parametersOf board)) (answer mask sides) ≡ take (atFirstDice (parametersOf board)) board
     first-alike =
         let d : ℕ = atFirstDice (parametersOf board) in
         sym (take-take d d (answer mask sides) (le-refl d))
@@ -89,7 +89,7 @@ module _ (board : List ℕ) (answer : Strategy) (f : Family board answer) where
         subst (λ (x : Parameters). StandsOver (commitment x) (answer mask sides)) its-parameters (accepts-stands answer mask sides .0 (h .accepted))
 
   -- over the board of any list with the same bytes before the first dice
-  valid : (q : List ℕ) → take (atFirstDice (parametersOf board)) board ≡ take (atFirstDice (parametersOf board)) q
+  pub valid : (q : List ℕ) → take (atFirstDice (parametersOf board)) board ≡ take (atFirstDice (parametersOf board)) q
       → (mask sides : ℕ) → Passed board answer mask sides
       → ValidOver (commitment (parametersOf board)) (boardAt (parametersOf board) q) (comparisonAt (parametersOf board) (answer mask sides)) (disclosureAt (parametersOf board) (answer mask sides))
   valid q e mask sides h =

@@ -8,7 +8,7 @@ use mathlib.Core.Path.{_≡_}
 use mathlib.Core.Logic.{_≢_}
 use mathlib.Core.Bool.{Bool, true, false}
 use mathlib.Core.List.{List}
-use Prim.Native.Nat.{ℕ, _-_, _*_, _^_, _<_, max}
+use Prim.Native.Nat.{ℕ, _-_, _*_, _^_, _≤_, _<_, max}
 use Rattle.laws.specs.Tests.{below, atMost, _and_}
 use Rattle.laws.specs.Masks.{bit}
 use Rattle.laws.specs.Sums.{sum}
@@ -95,3 +95,10 @@ module _ (board : List ℕ) (answer : Strategy) where
     pub passed₁ : Passed mask₁ sides₁
     pub passed₂ : Passed mask₂ sides₂
     pub opened : OpenedTwice (answer mask₁ sides₁) (answer mask₁ sides₁) (answer mask₂ sides₂)
+
+  -- the other case: there are votes that fit, and to all that do few throws are answered falsely
+  pub record FewFalse : Type 0 where
+    pub committed : ℕ → ℕ
+    pub fits : Fits committed
+    pub few : (votes : ℕ → ℕ) → Fits votes → (k : ℕ) → k ≤ parametersOf board .ballots
+        → throws (parametersOf board) (acceptsFalse (parametersOf board) answer votes k) ≤ mostFalse (parametersOf board) k
