@@ -21,29 +21,29 @@ use Rattle.protocol.proofs.Honesty.{opened-ballot}
 use Rattle.protocol.proofs.Reading.{read-parameters, read-id, read-ballot-commitment, read-side, read-ballot-opening, read-vote}
 use Rattle.protocol.proofs.Completeness.{Taken, written, board, comparison, disclosure, is-encoding, fits}
 
--- six openings of each ballot, of which the pair's records show three each, and the votes that they make
-module _ (b : Board) (k k₃ : Comparison) (d₁ d₂ d₃ : Disclosure) (f₁ : Fits b k d₁) (f₂ : Fits b k d₂) (f₃ : Fits b k₃ d₃)
-    (openings : ℕ → ℕ → List ℕ) (vote : ℕ → ℕ)
+-- six openings of each ballot, of which two records show three each, and the votes that they make
+module _ (b : Board) (k₁ k₂ : Comparison) (d₁ d₂ : Disclosure) (f₁ : Fits b k₁ d₁) (f₂ : Fits b k₂ d₂) (openings : ℕ → ℕ → List ℕ) (vote : ℕ → ℕ)
     (shown₁ : (j c : ℕ) → j < b .parameters .ballots → c < 3 → openings j (2 * c + d₁ .side j) ≡ d₁ .ballotOpening j c)
     (shown₂ : (j c : ℕ) → j < b .parameters .ballots → c < 3 → openings j (2 * c + d₂ .side j) ≡ d₂ .ballotOpening j c)
     (gives : (j q : ℕ) → j < b .parameters .ballots → q < 6 → commitment (b .parameters) (InBallot (b .id j) q) (openings j q) ≡ b .ballotCommitment j q)
     (sums : (j : ℕ) → j < b .parameters .ballots
-    → vote j ≡ (opened (openings j 0) + opened (openings j 1) + opened (openings j 2) + opened (openings j 3) + opened (openings j 4) + opened (openings j 5)) % b .parameters .modulus)
-    (often : (x : ℕ) → times x (d₃ .vote) (b .parameters .ballots) ≡ times x vote (b .parameters .ballots)) where
-  commits-at : (j : ℕ) → j < b .parameters .ballots → Commits (encoding b k d₁) (encoding b k d₂) j (vote j)
+    → vote j ≡ (opened (openings j 0) + opened (openings j 1) + opened (openings j 2) + opened (openings j 3) + opened (openings j 4) + opened (openings j 5)) % b .parameters .modulus) where
+  commits-at : (j : ℕ) → j < b .parameters .ballots → Commits (encoding b k₁ d₁) (encoding b k₂ d₂) j (vote j)
   commits-at j lj = record {
     openings = openings j;
-    shown₁ = λ c lc. rw (read-parameters b k d₁ f₁, read-side b k d₁ f₁ j lj, read-ballot-opening b k d₁ f₁ j c lj lc) (shown₁ j c lj lc);
-    shown₂ = λ c lc. rw (read-parameters b k d₂ f₂, read-side b k d₂ f₂ j lj, read-ballot-opening b k d₂ f₂ j c lj lc) (shown₂ j c lj lc);
-    gives = λ q lq. rw (read-parameters b k d₁ f₁, read-id b k d₁ f₁ j lj, read-ballot-commitment b k d₁ f₁ j q lj lq) (gives j q lj lq);
-    sum = rw (read-parameters b k d₁ f₁) (sums j lj);
+    shown₁ = λ c lc. rw (read-parameters b k₁ d₁ f₁, read-side b k₁ d₁ f₁ j lj, read-ballot-opening b k₁ d₁ f₁ j c lj lc) (shown₁ j c lj lc);
+    shown₂ = λ c lc. rw (read-parameters b k₂ d₂ f₂, read-side b k₂ d₂ f₂ j lj, read-ballot-opening b k₂ d₂ f₂ j c lj lc) (shown₂ j c lj lc);
+    gives = λ q lq. rw (read-parameters b k₁ d₁ f₁, read-id b k₁ d₁ f₁ j lj, read-ballot-commitment b k₁ d₁ f₁ j q lj lq) (gives j q lj lq);
+    sum = rw (read-parameters b k₁ d₁ f₁) (sums j lj);
   }
 
-  announces-them : Announces (encoding b k d₁) (encoding b k d₂) (encoding b k₃ d₃)
-  announces-them = record {
+  -- .. and a third record that announces each vote as often
+  announces-them : (k₃ : Comparison) (d₃ : Disclosure) → Fits b k₃ d₃
+      → ((x : ℕ) → times x (d₃ .vote) (b .parameters .ballots) ≡ times x vote (b .parameters .ballots)) → Announces (encoding b k₁ d₁) (encoding b k₂ d₂) (encoding b k₃ d₃)
+  announces-them k₃ d₃ f₃ often = record {
     committed = vote;
-    commits = λ j lj. commits-at j (rw (read-parameters b k d₁ f₁) at lj);
-    as-often = λ x. rw (read-parameters b k d₁ f₁, read-parameters b k₃ d₃ f₃) (times-same x (b .parameters .ballots) (read-vote b k₃ d₃ f₃) ∙ often x);
+    commits = λ j lj. commits-at j (rw (read-parameters b k₁ d₁ f₁) at lj);
+    as-often = λ x. rw (read-parameters b k₁ d₁ f₁, read-parameters b k₃ d₃ f₃) (times-same x (b .parameters .ballots) (read-vote b k₃ d₃ f₃) ∙ often x);
   }
 
 -- the numbers in a ballot's six openings make its vote
@@ -66,28 +66,29 @@ module _ (s : Inputs) (g : Good s) where
       regroup a b c d e f = omega arith
 
   -- each vote is announced as often as it was cast
-  announced-often : (x : ℕ) → times x (item (announced s)) (s .parameters .ballots) ≡ times x (s .vote) (s .parameters .ballots)
+  pub announced-often : (x : ℕ) → times x (item (announced s)) (s .parameters .ballots) ≡ times x (s .vote) (s .parameters .ballots)
   unfolding announced
   announced-often x =
       ap (λ (n : ℕ). times x (item (announced s)) n) (sym (length-sort (tabulate (s .vote) (s .parameters .ballots)) ∙ length-tabulate (s .vote) (s .parameters .ballots)))
       ∙ times-list x (announced s) ∙ count-sort (tabulate (s .vote) (s .parameters .ballots)) x ∙ count-tabulate x (s .vote) (s .parameters .ballots)
 
--- two records of one mask, and a third
-module _ (s : Slices) (g : Good (inputsOf s)) (dice₁ dice₂ dice₃ : List ℕ) (mask : ℕ) (sides₁ sides₂ : List ℕ)
-    (t₁ : Taken s dice₁ mask dice₂ sides₁) (t₂ : Taken s dice₁ mask dice₃ sides₂)
-    (dice₄ dice₅ : List ℕ) (mask₃ : ℕ) (sides₃ : List ℕ) (t₃ : Taken s dice₄ mask₃ dice₅ sides₃) where
+-- two records of the same inputs, and a third
+module _ (s : Slices) (g : Good (inputsOf s)) (dice₁ : List ℕ) (mask₁ : ℕ) (dice₂ sides₁ : List ℕ) (t₁ : Taken s dice₁ mask₁ dice₂ sides₁)
+    (dice₃ : List ℕ) (mask₂ : ℕ) (dice₄ sides₂ : List ℕ) (t₂ : Taken s dice₃ mask₂ dice₄ sides₂) where
   -- the ballots commit the votes cast
-  pub written-commits : (j : ℕ) → j < inputsOf s .parameters .ballots → Commits (written s dice₁ mask dice₂ sides₁) (written s dice₁ mask dice₃ sides₂) j (inputsOf s .vote j)
+  pub written-commits : (j : ℕ) → j < inputsOf s .parameters .ballots → Commits (written s dice₁ mask₁ dice₂ sides₁) (written s dice₃ mask₂ dice₄ sides₂) j (inputsOf s .vote j)
   unfolding board comparison disclosure postedBoard postedComparison postedDisclosure
   written-commits =
-      rw (is-encoding s g dice₁ mask dice₂ sides₁ t₁, is-encoding s g dice₁ mask dice₃ sides₂ t₂)
-      (commits-at _ _ _ _ _ _ (fits s g dice₁ mask dice₂ sides₁ t₁) (fits s g dice₁ mask dice₃ sides₂ t₂) (fits s g dice₄ mask₃ dice₅ sides₃ t₃)
-      (ballotOpening (inputsOf s)) (inputsOf s .vote) (λ j c lj lc. refl) (λ j c lj lc. refl) (λ j q lj lq. refl) (vote-is (inputsOf s) g) (announced-often (inputsOf s) g))
+      rw (is-encoding s g dice₁ mask₁ dice₂ sides₁ t₁, is-encoding s g dice₃ mask₂ dice₄ sides₂ t₂)
+      (commits-at _ _ _ _ _ (fits s g dice₁ mask₁ dice₂ sides₁ t₁) (fits s g dice₃ mask₂ dice₄ sides₂ t₂)
+      (ballotOpening (inputsOf s)) (inputsOf s .vote) (λ j c lj lc. refl) (λ j c lj lc. refl) (λ j q lj lq. refl) (vote-is (inputsOf s) g))
 
   -- and the third announces each as often
-  pub written-announced : Announces (written s dice₁ mask dice₂ sides₁) (written s dice₁ mask dice₃ sides₂) (written s dice₄ mask₃ dice₅ sides₃)
+  pub written-announced : (dice₅ : List ℕ) (mask₃ : ℕ) (dice₆ sides₃ : List ℕ) → Taken s dice₅ mask₃ dice₆ sides₃
+      → Announces (written s dice₁ mask₁ dice₂ sides₁) (written s dice₃ mask₂ dice₄ sides₂) (written s dice₅ mask₃ dice₆ sides₃)
   unfolding board comparison disclosure postedBoard postedComparison postedDisclosure
-  written-announced =
-      rw (is-encoding s g dice₁ mask dice₂ sides₁ t₁, is-encoding s g dice₁ mask dice₃ sides₂ t₂, is-encoding s g dice₄ mask₃ dice₅ sides₃ t₃)
-      (announces-them _ _ _ _ _ _ (fits s g dice₁ mask dice₂ sides₁ t₁) (fits s g dice₁ mask dice₃ sides₂ t₂) (fits s g dice₄ mask₃ dice₅ sides₃ t₃)
-      (ballotOpening (inputsOf s)) (inputsOf s .vote) (λ j c lj lc. refl) (λ j c lj lc. refl) (λ j q lj lq. refl) (vote-is (inputsOf s) g) (announced-often (inputsOf s) g))
+  written-announced dice₅ mask₃ dice₆ sides₃ t₃ =
+      rw (is-encoding s g dice₁ mask₁ dice₂ sides₁ t₁, is-encoding s g dice₃ mask₂ dice₄ sides₂ t₂, is-encoding s g dice₅ mask₃ dice₆ sides₃ t₃)
+      (announces-them _ _ _ _ _ (fits s g dice₁ mask₁ dice₂ sides₁ t₁) (fits s g dice₃ mask₂ dice₄ sides₂ t₂)
+      (ballotOpening (inputsOf s)) (inputsOf s .vote) (λ j c lj lc. refl) (λ j c lj lc. refl) (λ j q lj lq. refl) (vote-is (inputsOf s) g)
+      _ _ (fits s g dice₅ mask₃ dice₆ sides₃ t₃) (announced-often (inputsOf s) g))

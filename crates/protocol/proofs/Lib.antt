@@ -48,3 +48,5 @@ pub mod Copies
 pub mod Differing
 pub mod Throws
 pub mod Fittable
+pub mod Shares
+pub mod Served

@@ -94,11 +94,11 @@ ones30 : List ℕ
 ones30 = replicate 30 49
 
 module _ (s : Slices) (outLong : ℕ) (fit : FourBytes s) (h : partOneRefusal s outLong ≡ 0) where
-  good : Good (inputsOf s)
+  pub good : Good (inputsOf s)
   unfolding partOneRefusal
   good = good-inputs s (unrefused s _ _ _ _ h) fit
 
-  original : Original (postedBoard (inputsOf s))
+  pub original : Original (postedBoard (inputsOf s))
   unfolding partOneRefusal
   original = unrefused s _ _ _ _ h .original
 
@@ -154,8 +154,9 @@ module _ (s : Slices) (outLong : ℕ) (fit : FourBytes s) (h : partOneRefusal s 
   pub triple-announces : Announces (sample (lowMask (s .parameters .compared)) 0) (sample (lowMask (s .parameters .compared)) 1) (sample (highMask (s .parameters .compared)) 0)
   unfolding ones30 same-sides
   triple-announces =
-      written-announced s good ones30 ones30 ones30 (lowMask (s .parameters .compared)) (same-sides 0) (same-sides 1) (low 0 (omega arith)) (low 1 (omega arith))
-      ones30 ones30 (highMask (s .parameters .compared)) (same-sides 0) (high 0 (omega arith))
+      let M = lowMask (s .parameters .compared) in
+      written-announced s good ones30 M ones30 (same-sides 0) (low 0 (omega arith)) ones30 M ones30 (same-sides 1) (low 1 (omega arith))
+      ones30 (highMask (s .parameters .compared)) ones30 (same-sides 0) (high 0 (omega arith))
 
 -- the smallest election: one ballot, two lists, M = 2, every number 1
 pub tiny : Slices

@@ -8,9 +8,10 @@ use mathlib.Core.Path.{_≡_}
 use mathlib.Core.Logic.{_≢_}
 use mathlib.Core.Bool.{Bool, true, false}
 use mathlib.Core.List.{List}
-use Prim.Native.Nat.{ℕ, _-_, _*_, _^_, _≤_, _<_, max}
+use Prim.Native.Nat.{ℕ, _-_, _*_, _^_, _≤_, _<_, min, max}
 use Rattle.laws.specs.Tests.{below, atMost, _and_}
 use Rattle.laws.specs.Masks.{bit}
+use Rattle.laws.specs.Tables.{tabulate}
 use Rattle.laws.specs.Sums.{sum}
 use Rattle.laws.specs.Subsets.{manyBelow}
 use Rattle.laws.specs.Binomials.{binomial}
@@ -21,6 +22,8 @@ use Rattle.protocol.specs.Layout.{lists}
 use Rattle.protocol.specs.Record.{parametersOf, maskOf, sideOf, voteOf}
 use Rattle.protocol.specs.Rules.{rightShape}
 use Rattle.protocol.specs.Judging.{judged}
+use Rattle.protocol.specs.Inputs.{Slices}
+use Rattle.protocol.specs.Election.{chosen, electionRecord}
 use Rattle.protocol.specs.Demand3.{beforeFirstDice, beforeSecondDice, Commits, OpenedTwice}
 
 -- ---- throws and answers
@@ -54,9 +57,18 @@ module _ (p : Parameters) where
   unfoldable pub mostFalse : ℕ → ℕ
   mostFalse k = max (2 ^ p .ballots) (choices * 2 ^ (p .ballots - k))
 
+  -- .. which is at most one throw in so many
+  unfoldable pub oneIn : ℕ → ℕ
+  oneIn k = min choices (2 ^ k)
+
 -- plain judging accepts the answer
 unfoldable pub accepts : Strategy → ℕ → ℕ → Bool
 accepts answer mask sides = isDone (judged false (answer mask sides))
+
+-- what honest servers answer: the record that they write with this mask and these sides given, whatever the dice are
+unfoldable pub served : Slices → (ℕ → List ℕ) → (ℕ → ℕ → List ℕ) → Strategy
+served s dice₁ dice₂ mask sides =
+    electionRecord s (chosen mask) (dice₁ mask) (chosen (tabulate (bit sides) (s .parameters .ballots))) (dice₂ mask sides)
 
 -- .. and it announces votes that differ from these in at least k places
 unfoldable pub acceptsFalse : Parameters → Strategy → (ℕ → ℕ) → ℕ → ℕ → ℕ → Bool

@@ -1,0 +1,135 @@
+-- How many throws there are, and which share of them a false result can pass.
+use mathlib.Core.Path.{_≡_, refl, sym, ap, _∙_}
+use mathlib.Core.Logic.{_↔_}
+use mathlib.Core.Bool.{Bool, true, false}
+use mathlib.Core.List.{List, [], _∷_}
+use Prim.Native.Nat.{ℕ, _+_, _-_, _*_, _^_, _≤_, _<_, min, max}
+use native.Mathlib.Nat.{le-refl, le-trans, le-of-eq, mul-assoc, mul-comm, mul-le-mul, min-le-left, min-le-right}
+use native.Mathlib.Decide.{decLe}
+use native.Mathlib.Omega.{arith}
+use lib.Count.{ones}
+use lib.Pow.{pow-add, pow-mono}
+use Rattle.laws.specs.Tests.{equal, _and_, refuted, never, equal-iff, and-iff, is-equal, is-below}
+use Rattle.laws.specs.Sums.{sum, oneIf, times, sum-same, sum-times}
+use Rattle.laws.specs.Subsets.{manyBelow, below-none, below-all}
+use Rattle.laws.specs.Binomials.{binomial, with-ones, two-choices}
+use Rattle.laws.specs.Distances.{distance, distance-zero}
+use Rattle.protocol.specs.declared.Parameters.{Parameters}
+use Rattle.protocol.specs.Layout.{lists}
+use Rattle.protocol.specs.Record.{parametersOf, voteOf}
+use Rattle.protocol.specs.Throws.{Strategy, isThrow, throws, allThrows, choices, mostFalse, oneIn, acceptsFalse, Passed, Family, Fits, FewFalse}
+use Rattle.protocol.proofs.Throws.{thrown-iff, valid}
+
+-- ---- all throws
+
+module _ (p : Parameters) where
+  -- under one mask: as many as there are sides, or none
+  under : (mask : ℕ) → mask < 2 ^ lists p
+      → manyBelow (λ sides. isThrow p mask sides and true) (2 ^ p .ballots) ≡ oneIf (equal (ones mask) (p .compared)) * 2 ^ p .ballots
+  under mask l = go (equal (ones mask) (p .compared)) refl
+    where
+      go : (b : Bool) → equal (ones mask) (p .compared) ≡ b → manyBelow (λ sides. isThrow p mask sides and true) (2 ^ p .ballots) ≡ oneIf b * 2 ^ p .ballots
+      go true e =
+          below-all (λ sides. isThrow p mask sides and true) (2 ^ p .ballots)
+          (λ sides ls. and-iff (isThrow p mask sides) true .1 (thrown-iff p mask sides .1 ((equal-iff (ones mask) (p .compared) .0 e, l), ls), refl))
+          ∙ omega arith
+      go false e =
+          below-none (λ sides. isThrow p mask sides and true) (2 ^ p .ballots)
+          (λ sides ls. refuted (isThrow p mask sides and true) (λ h.
+              let ((o, low), some) = thrown-iff p mask sides .0 (and-iff (isThrow p mask sides) true .0 h .0) in
+              never (is-equal o) e))
+          ∙ omega arith
+
+  pub all-throws : allThrows p ≡ choices p * 2 ^ p .ballots
+  unfolding allThrows throws choices
+  all-throws =
+      sum-same (λ mask. manyBelow (λ sides. isThrow p mask sides and true) (2 ^ p .ballots)) (λ mask. oneIf (equal (ones mask) (p .compared)) * 2 ^ p .ballots) (2 ^ lists p) under
+      ∙ sum-times (λ mask. oneIf (equal (ones mask) (p .compared))) (2 ^ p .ballots) (2 ^ lists p)
+      ∙ ap (λ (c : ℕ). c * 2 ^ p .ballots) (with-ones (lists p) (p .compared))
+
+  -- ---- the bound as a share of them
+
+  pub share : (k count : ℕ) → k ≤ p .ballots → count ≤ mostFalse p k → count * oneIn p k ≤ allThrows p
+  unfolding mostFalse oneIn
+  share k count lk few = le-trans (go (decLe count (2 ^ p .ballots))) (le-of-eq (sym all-throws))
+    where
+      C : ℕ
+      C = choices p
+
+      whole : C * 2 ^ (p .ballots - k) * 2 ^ k ≡ C * 2 ^ p .ballots
+      whole =
+          let e : p .ballots - k + k ≡ p .ballots = omega arith in
+          mul-assoc C (2 ^ (p .ballots - k)) (2 ^ k) ∙ ap (λ (x : ℕ). C * x) (sym (pow-add 2 (p .ballots - k) k) ∙ ap (λ (x : ℕ). 2 ^ x) e)
+
+      go : Dec (count ≤ 2 ^ p .ballots) → count * min C (2 ^ k) ≤ C * 2 ^ p .ballots
+      go (yes l) = le-trans (mul-le-mul l (min-le-left C (2 ^ k))) (le-of-eq (mul-comm (2 ^ p .ballots) C))
+      go (no l) =
+          let m : count ≤ C * 2 ^ (p .ballots - k) = omega (arith, few) in
+          le-trans (mul-le-mul m (min-le-right C (2 ^ k))) (le-of-eq whole)
+
+-- ---- what that is in numbers
+
+-- one throw in how many, with 2m lists and k wrong votes
+abbrev row : ℕ → ℕ → ℕ
+row m k = min (binomial (2 * m) m) (2 ^ k)
+
+pub row-is : (p : Parameters) (k : ℕ) → oneIn p k ≡ row (p .compared) k
+unfolding oneIn choices
+row-is p k = refl
+
+-- with 1, 5, 10, 15 and 22 wrong votes
+abbrev rowOf : ℕ → List ℕ
+rowOf m = row m 1 ∷ row m 5 ∷ row m 10 ∷ row m 15 ∷ row m 22 ∷ []
+
+pub record Rows : Type 0 where
+  pub lists-2 : rowOf 1 ≡ 2 ∷ 2 ∷ 2 ∷ 2 ∷ 2 ∷ []
+  pub lists-4 : rowOf 2 ≡ 2 ∷ 6 ∷ 6 ∷ 6 ∷ 6 ∷ []
+  pub lists-8 : rowOf 4 ≡ 2 ∷ 32 ∷ 70 ∷ 70 ∷ 70 ∷ []
+  pub lists-12 : rowOf 6 ≡ 2 ∷ 32 ∷ 924 ∷ 924 ∷ 924 ∷ []
+  pub lists-16 : rowOf 8 ≡ 2 ∷ 32 ∷ 1024 ∷ 12870 ∷ 12870 ∷ []
+  pub lists-24 : rowOf 12 ≡ 2 ∷ 32 ∷ 1024 ∷ 32768 ∷ 2704156 ∷ []
+
+pub rows : Rows
+unfolding binomial
+rows = record { lists-2 = refl; lists-4 = refl; lists-8 = refl; lists-12 = refl; lists-16 = refl; lists-24 = refl }
+
+twelve : binomial (2 * 12) 12 ≡ 2704156
+unfolding binomial
+twelve = refl
+
+-- ---- the claim as shares
+
+module _ (board : List ℕ) (answer : Strategy) (few : FewFalse board answer) (votes : ℕ → ℕ) (fits : Fits board answer votes)
+    (k : ℕ) (lk : k ≤ parametersOf board .ballots) where
+  -- the throws that pass with k wrong votes or more
+  abbrev falseThrows : ℕ
+  falseThrows = throws (parametersOf board) (acceptsFalse (parametersOf board) answer votes k)
+
+  pub false-share : falseThrows * oneIn (parametersOf board) k ≤ allThrows (parametersOf board)
+  false-share = share (parametersOf board) k falseThrows lk (few .few votes fits k lk)
+
+  -- a false result passes at most half of all throws
+  pub at-most-half : 1 ≤ parametersOf board .compared → 1 ≤ k → falseThrows * 2 ≤ allThrows (parametersOf board)
+  unfolding oneIn choices
+  at-most-half lm l1 =
+      let two : 2 ≤ 2 ^ k = pow-mono {i = 1} {j = k} l1 in
+      le-trans (mul-le-mul (le-refl falseThrows) (omega (arith, two-choices (parametersOf board .compared) lm))) false-share
+
+  -- with 24 lists, one with 22 or more wrong votes passes at most one throw in 2,704,156
+  pub one-in-millions : parametersOf board .compared ≡ 12 → 22 ≤ k → falseThrows * 2704156 ≤ allThrows (parametersOf board)
+  unfolding oneIn choices
+  one-in-millions em lk22 =
+      let many : 4194304 ≤ 2 ^ k = pow-mono {i = 22} {j = k} lk22 in
+      let c : binomial (2 * parametersOf board .compared) (parametersOf board .compared) ≡ 2704156 = ap (λ (m : ℕ). binomial (2 * m) m) em ∙ twelve in
+      le-trans (mul-le-mul (le-refl falseThrows) (omega (arith, c))) false-share
+
+-- ---- when a result is false
+
+-- votes at no distance are announced each as often, as demand 3 says it
+pub false-iff : (board : List ℕ) (answer : Strategy) → Family board answer → (mask sides : ℕ) → Passed board answer mask sides
+    → (votes : ℕ → ℕ) → ((j : ℕ) → j < parametersOf board .ballots → votes j < parametersOf board .modulus)
+    → (distance (parametersOf board .modulus) (voteOf (parametersOf board) (answer mask sides)) votes (parametersOf board .ballots) ≡ 0)
+    ↔ ((x : ℕ) → times x (voteOf (parametersOf board) (answer mask sides)) (parametersOf board .ballots) ≡ times x votes (parametersOf board .ballots))
+false-iff board answer f mask sides h votes low =
+    distance-zero (parametersOf board .modulus) (voteOf (parametersOf board) (answer mask sides)) votes (parametersOf board .ballots)
+    (valid board answer f board refl mask sides h .votes-below) low
