@@ -9,8 +9,8 @@ use native.Mathlib.Decide.{decLe}
 use native.Mathlib.Omega.{arith}
 use lib.Count.{ones}
 use lib.Pow.{pow-add, pow-mono}
-use Rattle.laws.specs.Tests.{equal, _and_, refuted, never, equal-iff, and-iff, is-equal, is-below}
-use Rattle.laws.specs.Sums.{sum, oneIf, times, sum-same, sum-times}
+use Rattle.laws.specs.Tests.{equal, _and_, refuted, never, equal-iff, and-iff, and-stop, is-equal}
+use Rattle.laws.specs.Sums.{sum, oneIf, times, sum-same, sum-none, sum-times}
 use Rattle.laws.specs.Subsets.{manyBelow, below-none, below-all}
 use Rattle.laws.specs.Binomials.{binomial, with-ones, two-choices}
 use Rattle.laws.specs.Distances.{distance, distance-zero}
@@ -20,9 +20,31 @@ use Rattle.protocol.specs.Record.{parametersOf, voteOf}
 use Rattle.protocol.specs.Throws.{Strategy, isThrow, throws, allThrows, choices, mostFalse, oneIn, acceptsFalse, Passed, Family, Fits, FewFalse}
 use Rattle.protocol.proofs.Throws.{thrown-iff, valid}
 
--- ---- all throws
-
 module _ (p : Parameters) where
+  -- ---- tests that agree on all throws count as many
+
+  pub throws-same : (t u : ℕ → ℕ → Bool) → ((mask sides : ℕ) → isThrow p mask sides ≡ true → t mask sides ≡ u mask sides) → throws p t ≡ throws p u
+  unfolding throws
+  throws-same t u h =
+      sum-same (λ mask. manyBelow (λ sides. isThrow p mask sides and t mask sides) (2 ^ p .ballots)) (λ mask. manyBelow (λ sides. isThrow p mask sides and u mask sides) (2 ^ p .ballots)) (2 ^ lists p)
+      (λ mask l. sum-same (λ sides. oneIf (isThrow p mask sides and t mask sides)) (λ sides. oneIf (isThrow p mask sides and u mask sides)) (2 ^ p .ballots)
+      (λ sides ls. ap oneIf (go mask sides (isThrow p mask sides) refl)))
+    where
+      go : (mask sides : ℕ) (b : Bool) → isThrow p mask sides ≡ b → (b and t mask sides) ≡ (b and u mask sides)
+      go mask sides true e = ap (λ (x : Bool). true and x) (h mask sides e)
+      go mask sides false e = sym (and-stop false (t mask sides) refl) ∙ and-stop false (u mask sides) refl
+
+  pub throws-none : (t : ℕ → ℕ → Bool) → ((mask sides : ℕ) → isThrow p mask sides ≡ true → t mask sides ≡ false) → throws p t ≡ 0
+  unfolding throws
+  throws-none t h =
+      sum-none (λ mask. manyBelow (λ sides. isThrow p mask sides and t mask sides) (2 ^ p .ballots)) (2 ^ lists p)
+      (λ mask l. below-none (λ sides. isThrow p mask sides and t mask sides) (2 ^ p .ballots)
+      (λ sides ls. refuted (isThrow p mask sides and t mask sides) (λ e.
+          let (thrown, met) = and-iff (isThrow p mask sides) (t mask sides) .0 e in
+          never met (h mask sides thrown))))
+
+  -- ---- all throws
+
   -- under one mask: as many as there are sides, or none
   under : (mask : ℕ) → mask < 2 ^ lists p
       → manyBelow (λ sides. isThrow p mask sides and true) (2 ^ p .ballots) ≡ oneIf (equal (ones mask) (p .compared)) * 2 ^ p .ballots
