@@ -18,25 +18,28 @@ use Rattle.protocol.specs.Layout.{lists, atFirstDice}
 use Rattle.protocol.specs.Record.{Board, Comparison, Disclosure, parametersOf, idOf, ballotCommitmentOf, sideOf, ballotOpeningOf}
 use Rattle.protocol.specs.Stands.{ValidOver}
 use Rattle.protocol.specs.Demand3.{Shown, Commits, CommitsOver, OpenedTwiceOver}
-use Rattle.protocol.specs.Throws.{Strategy, Passed, Family, Fits, AnswersTwice, FewFalse}
+use Rattle.protocol.specs.Throws.{Strategy, Passed, Family, Fits, AnswersTwice}
 use Rattle.protocol.proofs.Alike.{id-alike}
 use Rattle.protocol.proofs.Transport.{slot-in}
 use Rattle.protocol.proofs.Committed.{six, both, on-side, off-side}
 use Rattle.protocol.proofs.Counted.{vote}
 use Rattle.protocol.proofs.Soundness.{boardAt, comparisonAt, disclosureAt, ballot-half-shown, ballot-posted, commits}
-use Rattle.protocol.proofs.Throws.{thrown-iff, passes, passes-iff, its-parameters, first-alike, valid, unambiguous, few-false}
+use Rattle.protocol.proofs.Passing.{thrown-iff, passes, passes-iff, its-parameters, first-alike, valid}
 
 module _ (board : List ℕ) (answer : Strategy) (f : Family board answer) where
+  abbrev p : Parameters
+  p = parametersOf board
+
   -- ---- a ballot's half is opened in one way
 
   abbrev SameBallot : ℕ → ℕ → ℕ → ℕ → ℕ → ℕ → Type 0
   SameBallot mask₁ sides₁ mask₂ sides₂ j c =
       Passed board answer mask₁ sides₁ → Passed board answer mask₂ sides₂ → bit sides₁ j ≡ bit sides₂ j
-      → ballotOpeningOf (parametersOf board) (answer mask₁ sides₁) j c ≡ ballotOpeningOf (parametersOf board) (answer mask₂ sides₂) j c
+      → ballotOpeningOf p (answer mask₁ sides₁) j c ≡ ballotOpeningOf p (answer mask₂ sides₂) j c
 
-  twice : (mask₁ sides₁ mask₂ sides₂ j c : ℕ) → Passed board answer mask₁ sides₁ → Passed board answer mask₂ sides₂ → j < parametersOf board .ballots → c < 3
+  twice : (mask₁ sides₁ mask₂ sides₂ j c : ℕ) → Passed board answer mask₁ sides₁ → Passed board answer mask₂ sides₂ → j < p .ballots → c < 3
       → bit sides₁ j ≡ bit sides₂ j
-      → ballotOpeningOf (parametersOf board) (answer mask₁ sides₁) j c ≢ ballotOpeningOf (parametersOf board) (answer mask₂ sides₂) j c → AnswersTwice board answer
+      → ballotOpeningOf p (answer mask₁ sides₁) j c ≢ ballotOpeningOf p (answer mask₂ sides₂) j c → AnswersTwice board answer
   twice mask₁ sides₁ mask₂ sides₂ j c h₁ h₂ lj lc side ne =
       record {
         mask₁ = mask₁;
@@ -59,9 +62,6 @@ module _ (board : List ℕ) (answer : Strategy) (f : Family board answer) where
         };
       }
     where
-      p : Parameters
-      p = parametersOf board
-
       r₁ : List ℕ
       r₁ = answer mask₁ sides₁
 
@@ -92,37 +92,37 @@ module _ (board : List ℕ) (answer : Strategy) (f : Family board answer) where
       same-id : idOf p r₂ j ≡ idOf p r₁ j
       same-id = id-alike p r₂ r₁ (first-alike board answer f mask₂ sides₂ h₂ ∙ first) j lj
 
-  same-or : (mask₁ sides₁ mask₂ sides₂ j : ℕ) → j < parametersOf board .ballots → (c : ℕ) → c < 3 → SameBallot mask₁ sides₁ mask₂ sides₂ j c ⊎ AnswersTwice board answer
+  same-or : (mask₁ sides₁ mask₂ sides₂ j : ℕ) → j < p .ballots → (c : ℕ) → c < 3 → SameBallot mask₁ sides₁ mask₂ sides₂ j c ⊎ AnswersTwice board answer
   same-or mask₁ sides₁ mask₂ sides₂ j lj c lc =
-      go (passes board answer f mask₁ sides₁) refl (passes board answer f mask₂ sides₂) refl (ℕ-discrete (bit sides₁ j) (bit sides₂ j))
-      (List-discrete ℕ-discrete (ballotOpeningOf (parametersOf board) (answer mask₁ sides₁) j c) (ballotOpeningOf (parametersOf board) (answer mask₂ sides₂) j c))
+      go (passes board answer mask₁ sides₁) refl (passes board answer mask₂ sides₂) refl (ℕ-discrete (bit sides₁ j) (bit sides₂ j))
+      (List-discrete ℕ-discrete (ballotOpeningOf p (answer mask₁ sides₁) j c) (ballotOpeningOf p (answer mask₂ sides₂) j c))
     where
-      go : (a : Bool) → passes board answer f mask₁ sides₁ ≡ a → (b : Bool) → passes board answer f mask₂ sides₂ ≡ b → Dec (bit sides₁ j ≡ bit sides₂ j)
-          → Dec (ballotOpeningOf (parametersOf board) (answer mask₁ sides₁) j c ≡ ballotOpeningOf (parametersOf board) (answer mask₂ sides₂) j c)
+      go : (a : Bool) → passes board answer mask₁ sides₁ ≡ a → (b : Bool) → passes board answer mask₂ sides₂ ≡ b → Dec (bit sides₁ j ≡ bit sides₂ j)
+          → Dec (ballotOpeningOf p (answer mask₁ sides₁) j c ≡ ballotOpeningOf p (answer mask₂ sides₂) j c)
           → SameBallot mask₁ sides₁ mask₂ sides₂ j c ⊎ AnswersTwice board answer
-      go false e b e' s d = inl (λ h₁ h₂. absurd (never (passes-iff board answer f mask₁ sides₁ .1 h₁) e))
-      go true e false e' s d = inl (λ h₁ h₂. absurd (never (passes-iff board answer f mask₂ sides₂ .1 h₂) e'))
+      go false e b e' s d = inl (λ h₁ h₂. absurd (never (passes-iff board answer mask₁ sides₁ .1 h₁) e))
+      go true e false e' s d = inl (λ h₁ h₂. absurd (never (passes-iff board answer mask₂ sides₂ .1 h₂) e'))
       go true e true e' (no s) d = inl (λ h₁ h₂ side. absurd (s side))
       go true e true e' (yes s) (yes q) = inl (λ h₁ h₂ side. q)
       go true e true e' (yes s) (no ne) =
-          inr (twice mask₁ sides₁ mask₂ sides₂ j c (passes-iff board answer f mask₁ sides₁ .0 e) (passes-iff board answer f mask₂ sides₂ .0 e') lj lc s ne)
+          inr (twice mask₁ sides₁ mask₂ sides₂ j c (passes-iff board answer mask₁ sides₁ .0 e) (passes-iff board answer mask₂ sides₂ .0 e') lj lc s ne)
 
   abbrev SameBallots : Type 0
-  SameBallots = (mask₁ sides₁ mask₂ sides₂ j c : ℕ) → j < parametersOf board .ballots → c < 3 → SameBallot mask₁ sides₁ mask₂ sides₂ j c
+  SameBallots = (mask₁ sides₁ mask₂ sides₂ j c : ℕ) → j < p .ballots → c < 3 → SameBallot mask₁ sides₁ mask₂ sides₂ j c
 
   same-ballots : SameBallots ⊎ AnswersTwice board answer
   same-ballots = do
-    same ← all-or masks (λ mask₁ l₁. all-or sides (λ sides₁ l₂. all-or masks (λ mask₂ l₃. all-or sides (λ sides₂ l₄. all-or (parametersOf board .ballots) (λ j lj. all-or 3 (same-or mask₁ sides₁ mask₂ sides₂ j lj))))))
+    same ← all-or masks (λ mask₁ l₁. all-or sides (λ sides₁ l₂. all-or masks (λ mask₂ l₃. all-or sides (λ sides₂ l₄. all-or (p .ballots) (λ j lj. all-or 3 (same-or mask₁ sides₁ mask₂ sides₂ j lj))))))
     inl (λ mask₁ sides₁ mask₂ sides₂ j c lj lc h₁ h₂.
-        let ((o₁, m₁), s₁) = thrown-iff (parametersOf board) mask₁ sides₁ .0 (h₁ .thrown) in
-        let ((o₂, m₂), s₂) = thrown-iff (parametersOf board) mask₂ sides₂ .0 (h₂ .thrown) in
+        let ((o₁, m₁), s₁) = thrown-iff p mask₁ sides₁ .0 (h₁ .thrown) in
+        let ((o₂, m₂), s₂) = thrown-iff p mask₂ sides₂ .0 (h₂ .thrown) in
         same mask₁ m₁ sides₁ s₁ mask₂ m₂ sides₂ s₂ j lj c lc h₁ h₂)
     where
       masks : ℕ
-      masks = 2 ^ lists (parametersOf board)
+      masks = 2 ^ lists p
 
       sides : ℕ
-      sides = 2 ^ parametersOf board .ballots
+      sides = 2 ^ p .ballots
 
   -- ---- a throw that passes and shows side v of ballot j
 
@@ -137,23 +137,23 @@ module _ (board : List ℕ) (answer : Strategy) (f : Family board answer) where
 
   search : (j v : ℕ) → NeverOn j v ⊎ ShownOn j v
   search j v = do
-    never-on ← all-or (2 ^ lists (parametersOf board)) (λ mask l. all-or (2 ^ parametersOf board .ballots) (λ sides k. at mask sides (passes board answer f mask sides) refl (ℕ-discrete (bit sides j) v)))
-    inl (λ mask sides h. let ((o, m), s) = thrown-iff (parametersOf board) mask sides .0 (h .thrown) in never-on mask m sides s h)
+    never-on ← all-or (2 ^ lists p) (λ mask l. all-or (2 ^ p .ballots) (λ sides k. at mask sides (passes board answer mask sides) refl (ℕ-discrete (bit sides j) v)))
+    inl (λ mask sides h. let ((o, m), s) = thrown-iff p mask sides .0 (h .thrown) in never-on mask m sides s h)
     where
-      at : (mask sides : ℕ) (a : Bool) → passes board answer f mask sides ≡ a → Dec (bit sides j ≡ v)
+      at : (mask sides : ℕ) (a : Bool) → passes board answer mask sides ≡ a → Dec (bit sides j ≡ v)
           → (Passed board answer mask sides → bit sides j ≢ v) ⊎ ShownOn j v
-      at mask sides false e d = inl (λ h. absurd (never (passes-iff board answer f mask sides .1 h) e))
+      at mask sides false e d = inl (λ h. absurd (never (passes-iff board answer mask sides .1 h) e))
       at mask sides true e (no ne) = inl (λ h. ne)
-      at mask sides true e (yes s) = inr record { mask = mask; sides = sides; passed = passes-iff board answer f mask sides .0 e; side = s }
+      at mask sides true e (yes s) = inr record { mask = mask; sides = sides; passed = passes-iff board answer mask sides .0 e; side = s }
 
   -- ---- the votes
 
   abbrev shownBy : {j v : ℕ} → ShownOn j v → Disclosure
-  shownBy t = disclosureAt (parametersOf board) (answer (t .mask) (t .sides))
+  shownBy t = disclosureAt p (answer (t .mask) (t .sides))
 
   -- the sum of the six numbers where both sides are shown, else any number
   abbrev voteBy : (j : ℕ) → NeverOn j 0 ⊎ ShownOn j 0 → NeverOn j 1 ⊎ ShownOn j 1 → ℕ
-  voteBy j (inr a) (inr b) = vote (boardAt (parametersOf board) board) (shownBy a) (shownBy b) j
+  voteBy j (inr a) (inr b) = vote (boardAt p board) (shownBy a) (shownBy b) j
   voteBy j (inr a) (inl b) = 0
   voteBy j (inl a) b = 0
 
@@ -161,16 +161,13 @@ module _ (board : List ℕ) (answer : Strategy) (f : Family board answer) where
   committed j = voteBy j (search j 0) (search j 1)
 
   module _ (same : SameBallots) (mask₁ sides₁ mask₂ sides₂ j : ℕ) (h₁ : Passed board answer mask₁ sides₁) (h₂ : Passed board answer mask₂ sides₂)
-      (lj : j < parametersOf board .ballots) (ne : bit sides₁ j ≢ bit sides₂ j) where
+      (lj : j < p .ballots) (ne : bit sides₁ j ≢ bit sides₂ j) where
     -- slot q of two answers that show both sides is what any answer shows on its side
     both-shown : (mask sides : ℕ) → Passed board answer mask sides → (q : ℕ) → q < 6 → bit sides j ≡ q % 2
-        → both (disclosureAt (parametersOf board) (answer mask₁ sides₁)) (disclosureAt (parametersOf board) (answer mask₂ sides₂)) j q
-        ≡ ballotOpeningOf (parametersOf board) (answer mask sides) j (q / 2)
+        → both (disclosureAt p (answer mask₁ sides₁)) (disclosureAt p (answer mask₂ sides₂)) j q
+        ≡ ballotOpeningOf p (answer mask sides) j (q / 2)
     both-shown mask sides h q lq e = go (ℕ-discrete (bit sides₁ j) (q % 2))
       where
-        p : Parameters
-        p = parametersOf board
-
         d₁ : Disclosure
         d₁ = disclosureAt p (answer mask₁ sides₁)
 
@@ -188,19 +185,19 @@ module _ (board : List ℕ) (answer : Strategy) (f : Family board answer) where
 
   -- the votes summed are the same, whichever two answers show both sides
   one-vote : SameBallots → (mask₁ sides₁ mask₂ sides₂ j : ℕ) → Passed board answer mask₁ sides₁ → Passed board answer mask₂ sides₂
-      → j < parametersOf board .ballots → bit sides₁ j ≢ bit sides₂ j → (a : ShownOn j 0) (b : ShownOn j 1)
-      → vote (boardAt (parametersOf board) board) (disclosureAt (parametersOf board) (answer mask₁ sides₁)) (disclosureAt (parametersOf board) (answer mask₂ sides₂)) j
-      ≡ vote (boardAt (parametersOf board) board) (shownBy a) (shownBy b) j
+      → j < p .ballots → bit sides₁ j ≢ bit sides₂ j → (a : ShownOn j 0) (b : ShownOn j 1)
+      → vote (boardAt p board) (disclosureAt p (answer mask₁ sides₁)) (disclosureAt p (answer mask₂ sides₂)) j
+      ≡ vote (boardAt p board) (shownBy a) (shownBy b) j
   one-vote same mask₁ sides₁ mask₂ sides₂ j h₁ h₂ lj ne a b =
       rw (slot 0 (omega arith), slot 1 (omega arith), slot 2 (omega arith), slot 3 (omega arith), slot 4 (omega arith), slot 5 (omega arith)) refl
     where
       opposite : bit (a .sides) j ≢ bit (b .sides) j
       opposite e = omega (arith, a .side, b .side, e)
 
-      slot : (q : ℕ) → q < 6 → both (disclosureAt (parametersOf board) (answer mask₁ sides₁)) (disclosureAt (parametersOf board) (answer mask₂ sides₂)) j q ≡ both (shownBy a) (shownBy b) j q
+      slot : (q : ℕ) → q < 6 → both (disclosureAt p (answer mask₁ sides₁)) (disclosureAt p (answer mask₂ sides₂)) j q ≡ both (shownBy a) (shownBy b) j q
       slot q lq = go (ℕ-discrete (q % 2) 0)
         where
-          go : Dec (q % 2 ≡ 0) → both (disclosureAt (parametersOf board) (answer mask₁ sides₁)) (disclosureAt (parametersOf board) (answer mask₂ sides₂)) j q ≡ both (shownBy a) (shownBy b) j q
+          go : Dec (q % 2 ≡ 0) → both (disclosureAt p (answer mask₁ sides₁)) (disclosureAt p (answer mask₂ sides₂)) j q ≡ both (shownBy a) (shownBy b) j q
           go (yes z) =
               both-shown same mask₁ sides₁ mask₂ sides₂ j h₁ h₂ lj ne (a .mask) (a .sides) (a .passed) q lq (a .side ∙ sym z)
               ∙ sym (both-shown same (a .mask) (a .sides) (b .mask) (b .sides) j (a .passed) (b .passed) lj opposite (a .mask) (a .sides) (a .passed) q lq (a .side ∙ sym z))
@@ -219,10 +216,7 @@ module _ (board : List ℕ) (answer : Strategy) (f : Family board answer) where
   unfolding committed
   fitting same = record { commits = λ mask₁ sides₁ mask₂ sides₂ j h₁ h₂ lj ne. go mask₁ sides₁ mask₂ sides₂ j h₁ h₂ lj ne (search j 0) (search j 1) }
     where
-      p : Parameters
-      p = parametersOf board
-
-      go : (mask₁ sides₁ mask₂ sides₂ j : ℕ) → Passed board answer mask₁ sides₁ → Passed board answer mask₂ sides₂ → j < parametersOf board .ballots
+      go : (mask₁ sides₁ mask₂ sides₂ j : ℕ) → Passed board answer mask₁ sides₁ → Passed board answer mask₂ sides₂ → j < p .ballots
           → bit sides₁ j ≢ bit sides₂ j → (a : NeverOn j 0 ⊎ ShownOn j 0) (b : NeverOn j 1 ⊎ ShownOn j 1)
           → Commits (answer mask₁ sides₁) (answer mask₂ sides₂) j (voteBy j a b)
       go mask₁ sides₁ mask₂ sides₂ j h₁ h₂ lj ne (inr a) (inr b) =
@@ -237,10 +231,7 @@ module _ (board : List ℕ) (answer : Strategy) (f : Family board answer) where
       go mask₁ sides₁ mask₂ sides₂ j h₁ h₂ lj ne (inr a) (inl b) = absurd (either-shown mask₁ sides₁ mask₂ sides₂ j 1 h₁ h₂ ne (omega arith) b)
       go mask₁ sides₁ mask₂ sides₂ j h₁ h₂ lj ne (inl a) b = absurd (either-shown mask₁ sides₁ mask₂ sides₂ j 0 h₁ h₂ ne (omega arith) a)
 
-  -- ---- the claim
-
-  pub answered : FewFalse board answer ⊎ AnswersTwice board answer
-  answered = do
-    u ← unambiguous board answer f
+  pub some-fit : ((votes : ℕ → ℕ) × Fits board answer votes) ⊎ AnswersTwice board answer
+  some-fit = do
     same ← same-ballots
-    inl record { committed = committed; fits = fitting same; few = few-false board answer f u }
+    inl (committed, fitting same)

@@ -46,7 +46,8 @@ pub mod Answered
 pub mod Forms
 pub mod Copies
 pub mod Differing
-pub mod Throws
+pub mod Passing
 pub mod Fittable
 pub mod Shares
+pub mod Throws
 pub mod Served

@@ -34,7 +34,7 @@ use Rattle.protocol.proofs.Accepting.{accepts-iff}
 use Rattle.protocol.proofs.Completeness.{Taken, written, board, comparison, disclosure, is-encoding, fits, written-parameters, written-accepted}
 use Rattle.protocol.proofs.Committing.{announced-often, written-commits}
 use Rattle.protocol.proofs.Meetable.{lowMask, low-shaped, good, original}
-use Rattle.protocol.proofs.Throws.{accepts-stands, parameters-of, thrown-iff}
+use Rattle.protocol.proofs.Passing.{accepts-stands, parameters-of, thrown-iff}
 use Rattle.protocol.proofs.Shares.{throws-same, throws-none}
 
 -- dice that the servers take

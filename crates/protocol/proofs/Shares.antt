@@ -18,7 +18,7 @@ use Rattle.protocol.specs.declared.Parameters.{Parameters}
 use Rattle.protocol.specs.Layout.{lists}
 use Rattle.protocol.specs.Record.{parametersOf, voteOf}
 use Rattle.protocol.specs.Throws.{Strategy, isThrow, throws, allThrows, choices, mostFalse, oneIn, acceptsFalse, Passed, Family, Fits, FewFalse}
-use Rattle.protocol.proofs.Throws.{thrown-iff, valid}
+use Rattle.protocol.proofs.Passing.{thrown-iff}
 
 module _ (p : Parameters) where
   -- ---- tests that agree on all throws count as many
@@ -115,43 +115,6 @@ pub rows : Rows
 unfolding binomial
 rows = record { lists-2 = refl; lists-4 = refl; lists-8 = refl; lists-12 = refl; lists-16 = refl; lists-24 = refl }
 
-twelve : binomial (2 * 12) 12 ≡ 2704156
+pub twelve : binomial (2 * 12) 12 ≡ 2704156
 unfolding binomial
 twelve = refl
-
--- ---- the claim as shares
-
-module _ (board : List ℕ) (answer : Strategy) (few : FewFalse board answer) (votes : ℕ → ℕ) (fits : Fits board answer votes)
-    (k : ℕ) (lk : k ≤ parametersOf board .ballots) where
-  -- the throws that pass with k wrong votes or more
-  abbrev falseThrows : ℕ
-  falseThrows = throws (parametersOf board) (acceptsFalse (parametersOf board) answer votes k)
-
-  pub false-share : falseThrows * oneIn (parametersOf board) k ≤ allThrows (parametersOf board)
-  false-share = share (parametersOf board) k falseThrows lk (few .few votes fits k lk)
-
-  -- a false result passes at most half of all throws
-  pub at-most-half : 1 ≤ parametersOf board .compared → 1 ≤ k → falseThrows * 2 ≤ allThrows (parametersOf board)
-  unfolding oneIn choices
-  at-most-half lm l1 =
-      let two : 2 ≤ 2 ^ k = pow-mono {i = 1} {j = k} l1 in
-      le-trans (mul-le-mul (le-refl falseThrows) (omega (arith, two-choices (parametersOf board .compared) lm))) false-share
-
-  -- with 24 lists, one with 22 or more wrong votes passes at most one throw in 2,704,156
-  pub one-in-millions : parametersOf board .compared ≡ 12 → 22 ≤ k → falseThrows * 2704156 ≤ allThrows (parametersOf board)
-  unfolding oneIn choices
-  one-in-millions em lk22 =
-      let many : 4194304 ≤ 2 ^ k = pow-mono {i = 22} {j = k} lk22 in
-      let c : binomial (2 * parametersOf board .compared) (parametersOf board .compared) ≡ 2704156 = ap (λ (m : ℕ). binomial (2 * m) m) em ∙ twelve in
-      le-trans (mul-le-mul (le-refl falseThrows) (omega (arith, c))) false-share
-
--- ---- when a result is false
-
--- votes at no distance are announced each as often, as demand 3 says it
-pub false-iff : (board : List ℕ) (answer : Strategy) → Family board answer → (mask sides : ℕ) → Passed board answer mask sides
-    → (votes : ℕ → ℕ) → ((j : ℕ) → j < parametersOf board .ballots → votes j < parametersOf board .modulus)
-    → (distance (parametersOf board .modulus) (voteOf (parametersOf board) (answer mask sides)) votes (parametersOf board .ballots) ≡ 0)
-    ↔ ((x : ℕ) → times x (voteOf (parametersOf board) (answer mask sides)) (parametersOf board .ballots) ≡ times x votes (parametersOf board .ballots))
-false-iff board answer f mask sides h votes low =
-    distance-zero (parametersOf board .modulus) (voteOf (parametersOf board) (answer mask sides)) votes (parametersOf board .ballots)
-    (valid board answer f board refl mask sides h .votes-below) low

@@ -1,323 +1,62 @@
--- What would be answered to every throw over one board: two accepted answers show a commitment opened in two ways, or few throws pass with a
--- result that differs from what the ballots commit. If more than 2^(n - k) sides pass under one mask, fewer than k ballots are always shown on
--- the same side; the others' entries in a list that this mask compares hold their votes, and every other mask opens such a list. So false
--- results pass under one mask alone, or every mask has few.
-use mathlib.Core.Path.{_≡_, refl, sym, ap, subst, _∙_}
-use mathlib.Core.Logic.{_⊎_, inl, inr, _≢_, _↔_}
-use mathlib.Core.Bool.{Bool, true, false}
+-- The claim of `specs/Throws`: over one board two accepted answers show a commitment opened in two ways, or few throws pass with a result that
+-- differs from what the ballots commit.
+use mathlib.Core.Path.{_≡_, refl, ap, _∙_}
+use mathlib.Core.Logic.{_↔_, _⊎_, inl}
+use mathlib.Core.Bool.{false}
 use mathlib.Core.List.{List, []}
-use Prim.Native.Nat.{ℕ, zero, suc, _+_, _-_, _*_, _^_, _≤_, _<_, max, suc-le-suc}
-use native.Mathlib.Nat.{le-refl, le-trans, le-of-eq}
-use native.Mathlib.Decide.{ℕ-discrete, decLe}
+use Prim.Native.Nat.{ℕ, _*_, _^_, _≤_, _<_}
+use native.Mathlib.Nat.{le-refl, le-trans, mul-le-mul}
 use native.Mathlib.Omega.{arith}
-use lib.Count.{ones}
-use lib.ListN.{take}
-use lib.Seq.{take-take}
-use Rattle.laws.specs.Tests.{equal, below, atMost, _and_, never, refuted, equal-iff, below-iff, and-iff, is-atMost, atMost-iff}
-use Rattle.laws.specs.Masks.{bit, bit-set, Only, only}
-use Rattle.laws.specs.Faults.{numberOf, rules}
-use Rattle.laws.specs.Search.{find, all-or, _>>=_}
-use Rattle.laws.specs.Sums.{sum, oneIf, sum-same, sum-none, sum-most, sum-only, sum-times}
-use Rattle.laws.specs.Subsets.{manyBelow, below-within, below-none, below-most, below-some}
-use Rattle.laws.specs.Binomials.{binomial, with-ones, constant, constant-less}
-use Rattle.laws.specs.Distances.{distance}
-use Rattle.protocol.specs.declared.Parameters.{Parameters}
-use Rattle.protocol.specs.declared.Place.the-variants.{InEntry}
-use Rattle.protocol.specs.Answers.{Answer, done, refused, answerOf, accepted}
-use Rattle.protocol.specs.Terms.{commitment}
-use Rattle.protocol.specs.Layout.{lists, atFirstDice, atSecondDice}
-use Rattle.protocol.specs.Record.{Board, Comparison, Disclosure, parametersOf, maskOf, positionOf, sideOf, listOpeningOf, fullOpeningOf, voteOf, entryCommitmentOf}
-use Rattle.protocol.specs.Rules.{rightShape}
-use Rattle.protocol.specs.Judging.{firstFault, judged}
-use Rattle.protocol.specs.Stands.{ValidOver, StandsOver, Stands}
-use Rattle.protocol.specs.Demand3.{beforeFirstDice, beforeSecondDice, CommitsOver, Shown, OpenedTwiceOver}
-use Rattle.protocol.specs.Throws.{Strategy, isDone, isThrow, throws, choices, mostFalse, accepts, acceptsFalse, Passed, Family, Fits, AnswersTwice}
-use Rattle.protocol.proofs.Accepting.{accepts-iff}
-use Rattle.protocol.proofs.Alike.{take-less, parameters-within, first-low, entry-alike, mask-alike, position-alike}
-use Rattle.protocol.proofs.Transport.{slot-in}
-use Rattle.protocol.proofs.Counted.{rank-below, Clash, Alike, alike-or}
-use Rattle.protocol.proofs.Soundness.{boardAt, comparisonAt, disclosureAt, over-board, over-comparison, clash-twice}
-use Rattle.protocol.proofs.Differing.{Summed, few-differ}
+use lib.Pow.{pow-mono}
+use Rattle.laws.specs.Search.{_>>=_}
+use Rattle.laws.specs.Sums.{times}
+use Rattle.laws.specs.Binomials.{binomial, two-choices}
+use Rattle.laws.specs.Distances.{distance, distance-zero}
+use Rattle.protocol.specs.Record.{parametersOf, voteOf}
+use Rattle.protocol.specs.Throws.{Strategy, throws, allThrows, choices, oneIn, acceptsFalse, Passed, Family, Fits, AnswersTwice, FewFalse}
+use Rattle.protocol.proofs.Passing.{valid, unambiguous, few-false}
+use Rattle.protocol.proofs.Fittable.{some-fit}
+use Rattle.protocol.proofs.Shares.{share, twelve}
 
--- ---- an accepted answer
+pub few-or-twice : (board : List ℕ) (answer : Strategy) → Family board answer → FewFalse board answer ⊎ AnswersTwice board answer
+few-or-twice board answer f = do
+  u ← unambiguous board answer f
+  t ← some-fit board answer f
+  inl record { committed = t .0; fits = t .1; few = few-false board answer f u }
 
--- the record stands
-pub accepts-stands : (answer : Strategy) (mask sides : ℕ) → (accepts answer mask sides ≡ true) ↔ Stands (answer mask sides)
-unfolding accepts judged isDone answerOf
-accepts-stands answer mask sides =
-    (λ e. accepts-iff (answer mask sides) .0 (from (numberOf (firstFault false (answer mask sides))) e), λ s. ap isDone (accepts-iff (answer mask sides) .1 s))
-  where
-    from : (v : ℕ) → isDone (answerOf v []) ≡ true → answerOf v [] ≡ accepted
-    from zero e = refl
-    from (suc v) e = absurd (never e refl)
+-- ---- the claim as shares
 
--- the bytes before the first dice tell the parameters
-pub parameters-of : (board r : List ℕ) → beforeFirstDice r ≡ board → parametersOf r ≡ parametersOf board
-parameters-of board r e =
-    let d : ℕ = atFirstDice (parametersOf r) in
-    parameters-within r board d (sym (take-take d d r (le-refl d)) ∙ ap (take d) e) (first-low (parametersOf r))
+module _ (board : List ℕ) (answer : Strategy) (few : FewFalse board answer) (votes : ℕ → ℕ) (fits : Fits board answer votes)
+    (k : ℕ) (lk : k ≤ parametersOf board .ballots) where
+  -- the throws that pass with k wrong votes or more
+  abbrev falseThrows : ℕ
+  falseThrows = throws (parametersOf board) (acceptsFalse (parametersOf board) answer votes k)
 
--- a throw's mask and sides
-pub thrown-iff : (p : Parameters) (mask sides : ℕ)
-    → (isThrow p mask sides ≡ true) ↔ (((ones mask ≡ p .compared) × (mask < 2 ^ lists p)) × (sides < 2 ^ p .ballots))
-unfolding isThrow rightShape
-thrown-iff p mask sides = (λ e. simp rules at e, λ t. simp rules t)
+  pub false-share : falseThrows * oneIn (parametersOf board) k ≤ allThrows (parametersOf board)
+  false-share = share (parametersOf board) k falseThrows lk (few .few votes fits k lk)
 
-module _ (board : List ℕ) (answer : Strategy) (f : Family board answer) where
-  -- the test of whether a throw passes
-  pub passes : ℕ → ℕ → Bool
-  passes mask sides = isThrow (parametersOf board) mask sides and accepts answer mask sides
+  -- a false result passes at most half of all throws
+  pub at-most-half : 1 ≤ parametersOf board .compared → 1 ≤ k → falseThrows * 2 ≤ allThrows (parametersOf board)
+  unfolding oneIn choices
+  at-most-half lm l1 =
+      let two : 2 ≤ 2 ^ k = pow-mono {i = 1} {j = k} l1 in
+      le-trans (mul-le-mul (le-refl falseThrows) (omega (arith, two-choices (parametersOf board .compared) lm))) false-share
 
-  pub passes-iff : (mask sides : ℕ) → (passes mask sides ≡ true) ↔ Passed board answer mask sides
-  unfolding passes
-  passes-iff mask sides =
-      (λ e. let t = and-iff (isThrow (parametersOf board) mask sides) (accepts answer mask sides) .0 e in record { thrown = t .0; accepted = t .1 },
-      λ h. and-iff (isThrow (parametersOf board) mask sides) (accepts answer mask sides) .1 (h .thrown, h .accepted))
+  -- with 24 lists, one with 22 or more wrong votes passes at most one throw in 2,704,156
+  pub one-in-millions : parametersOf board .compared ≡ 12 → 22 ≤ k → falseThrows * 2704156 ≤ allThrows (parametersOf board)
+  unfolding oneIn choices
+  one-in-millions em lk22 =
+      let many : 4194304 ≤ 2 ^ k = pow-mono {i = 22} {j = k} lk22 in
+      let c : binomial (2 * parametersOf board .compared) (parametersOf board .compared) ≡ 2704156 = ap (λ (m : ℕ). binomial (2 * m) m) em ∙ twelve in
+      le-trans (mul-le-mul (le-refl falseThrows) (omega (arith, c))) false-share
 
-  module _ (mask sides : ℕ) (h : Passed board answer mask sides) where
-    pub its-parameters : parametersOf (answer mask sides) ≡ parametersOf board
-    its-parameters = parameters-of board (answer mask sides) (f .boards mask sides h)
+-- ---- when a result is false
 
-    pub first-alike : take (atFirstDice (parametersOf board)) (answer mask sides) ≡ take (atFirstDice (parametersOf board)) board
-    first-alike =
-        let d : ℕ = atFirstDice (parametersOf board) in
-        sym (take-take d d (answer mask sides) (le-refl d))
-        ∙ ap (take d) (ap (λ (x : Parameters). take (atFirstDice x) (answer mask sides)) (sym its-parameters) ∙ f .boards mask sides h)
-
-    stands : StandsOver (commitment (parametersOf board)) (answer mask sides)
-    stands =
-        subst (λ (x : Parameters). StandsOver (commitment x) (answer mask sides)) its-parameters (accepts-stands answer mask sides .0 (h .accepted))
-
-  -- over the board of any list with the same bytes before the first dice
-  pub valid : (q : List ℕ) → take (atFirstDice (parametersOf board)) board ≡ take (atFirstDice (parametersOf board)) q
-      → (mask sides : ℕ) → Passed board answer mask sides
-      → ValidOver (commitment (parametersOf board)) (boardAt (parametersOf board) q) (comparisonAt (parametersOf board) (answer mask sides)) (disclosureAt (parametersOf board) (answer mask sides))
-  valid q e mask sides h =
-      over-board (parametersOf board) q (answer mask sides) (its-parameters mask sides h) (first-alike mask sides h ∙ e) (stands mask sides h)
-
-  -- ---- no opening is shown in two ways
-
-  -- the openings of list l that one answer shows in halves are those that the other shows in full
-  abbrev SameEntries : ℕ → ℕ → ℕ → ℕ → ℕ → Type 0
-  SameEntries mask₁ sides₁ mask₂ sides₂ l =
-      Alike (boardAt (parametersOf board) board) (comparisonAt (parametersOf board) (answer mask₁ sides₁)) (disclosureAt (parametersOf board) (answer mask₁ sides₁))
-      (disclosureAt (parametersOf board) (answer mask₂ sides₂)) l
-
-  abbrev Agreed : ℕ → ℕ → ℕ → ℕ → ℕ → Type 0
-  Agreed mask₁ sides₁ mask₂ sides₂ l =
-      Passed board answer mask₁ sides₁ → Passed board answer mask₂ sides₂ → bit mask₁ l ≡ 1 → bit mask₂ l ≡ 0 → SameEntries mask₁ sides₁ mask₂ sides₂ l
-
-  pub record Unambiguous : Type 0 where
-    pub entries : (mask₁ sides₁ mask₂ sides₂ l : ℕ) → l < lists (parametersOf board) → Agreed mask₁ sides₁ mask₂ sides₂ l
-
-  -- two answers that do not agree
-  twice : (mask₁ sides₁ mask₂ sides₂ : ℕ) → Passed board answer mask₁ sides₁ → Passed board answer mask₂ sides₂
-      → Clash (boardAt (parametersOf board) (answer mask₁ sides₁)) (comparisonAt (parametersOf board) (answer mask₁ sides₁)) (disclosureAt (parametersOf board) (answer mask₁ sides₁))
-      (comparisonAt (parametersOf board) (answer mask₂ sides₂)) (disclosureAt (parametersOf board) (answer mask₂ sides₂))
-      → AnswersTwice board answer
-  twice mask₁ sides₁ mask₂ sides₂ h₁ h₂ t =
-      let p : Parameters = parametersOf board in
-      let r₁ : List ℕ = answer mask₁ sides₁ in
-      let r₂ : List ℕ = answer mask₂ sides₂ in
-      let first : take (atFirstDice p) board ≡ take (atFirstDice p) r₁ = sym (first-alike mask₁ sides₁ h₁) in
-      record {
-        mask₁ = mask₁;
-        sides₁ = sides₁;
-        mask₂ = mask₂;
-        sides₂ = sides₂;
-        passed₁ = h₁;
-        passed₂ = h₂;
-        opened =
-            subst (λ (x : Parameters). OpenedTwiceOver (commitment x) r₁ r₁ r₂) (sym (its-parameters mask₁ sides₁ h₁))
-            (clash-twice p r₁ r₁ r₂ r₁ (its-parameters mask₁ sides₁ h₁) (its-parameters mask₁ sides₁ h₁) (its-parameters mask₂ sides₂ h₂) refl
-            (valid r₁ first mask₁ sides₁ h₁) (valid r₁ first mask₂ sides₂ h₂) (λ place o s. inl s) t);
-      }
-
-  agreed-or : (mask₁ sides₁ mask₂ sides₂ l : ℕ) → l < lists (parametersOf board) → Agreed mask₁ sides₁ mask₂ sides₂ l ⊎ AnswersTwice board answer
-  agreed-or mask₁ sides₁ mask₂ sides₂ l ll =
-      go (passes mask₁ sides₁) refl (passes mask₂ sides₂) refl (ℕ-discrete (bit mask₁ l) 1) (ℕ-discrete (bit mask₂ l) 0)
-    where
-      go : (a : Bool) → passes mask₁ sides₁ ≡ a → (b : Bool) → passes mask₂ sides₂ ≡ b → Dec (bit mask₁ l ≡ 1) → Dec (bit mask₂ l ≡ 0)
-          → Agreed mask₁ sides₁ mask₂ sides₂ l ⊎ AnswersTwice board answer
-      go false e b e' s c = inl (λ h₁ h₂. absurd (never (passes-iff mask₁ sides₁ .1 h₁) e))
-      go true e false e' s c = inl (λ h₁ h₂. absurd (never (passes-iff mask₂ sides₂ .1 h₂) e'))
-      go true e true e' (no s) c = inl (λ h₁ h₂ set. absurd (s set))
-      go true e true e' (yes s) (no c) = inl (λ h₁ h₂ set clear. absurd (c clear))
-      go true e true e' (yes s) (yes c) = do
-        same ← alike-or (boardAt (parametersOf board) r₁) (comparisonAt (parametersOf board) r₁) (disclosureAt (parametersOf board) r₁) (comparisonAt (parametersOf board) r₂) (disclosureAt (parametersOf board) r₂) l ll
-            (rw (f .masks mask₁ sides₁ h₁) s) (rw (f .masks mask₂ sides₂ h₂) c) (twice mask₁ sides₁ mask₂ sides₂ h₁ h₂)
-        inl (λ h₁ h₂ set clear. same)
-        where
-          r₁ : List ℕ
-          r₁ = answer mask₁ sides₁
-
-          r₂ : List ℕ
-          r₂ = answer mask₂ sides₂
-
-          h₁ : Passed board answer mask₁ sides₁
-          h₁ = passes-iff mask₁ sides₁ .0 e
-
-          h₂ : Passed board answer mask₂ sides₂
-          h₂ = passes-iff mask₂ sides₂ .0 e'
-
-  pub unambiguous : Unambiguous ⊎ AnswersTwice board answer
-  unambiguous = do
-    agreed ← all-or masks (λ mask₁ l₁. all-or sides (λ sides₁ l₂. all-or masks (λ mask₂ l₃. all-or sides (λ sides₂ l₄. all-or (lists (parametersOf board)) (agreed-or mask₁ sides₁ mask₂ sides₂)))))
-    inl record {
-      entries = λ mask₁ sides₁ mask₂ sides₂ l ll h₁ h₂.
-          let ((o₁, m₁), s₁) = thrown-iff (parametersOf board) mask₁ sides₁ .0 (h₁ .thrown) in
-          let ((o₂, m₂), s₂) = thrown-iff (parametersOf board) mask₂ sides₂ .0 (h₂ .thrown) in
-          agreed mask₁ m₁ sides₁ s₁ mask₂ m₂ sides₂ s₂ l ll h₁ h₂;
-    }
-    where
-      masks : ℕ
-      masks = 2 ^ lists (parametersOf board)
-
-      sides : ℕ
-      sides = 2 ^ parametersOf board .ballots
-
-  -- ---- under another mask than one that many sides pass
-
-  module _ (u : Unambiguous) (votes : ℕ → ℕ) (fits : Fits board answer votes) where
-    second-alike : (mask one other : ℕ) → Passed board answer mask one → Passed board answer mask other
-        → take (atSecondDice (parametersOf board)) (answer mask one) ≡ take (atSecondDice (parametersOf board)) (answer mask other)
-    second-alike mask one other h₁ h₂ =
-        ap (λ (x : Parameters). take (atSecondDice x) (answer mask one)) (sym (its-parameters mask one h₁)) ∙ f .links mask one other h₁ h₂
-        ∙ ap (λ (x : Parameters). take (atSecondDice x) (answer mask other)) (its-parameters mask other h₂)
-
-    -- the sum of a ballot's six numbers
-    summed : (mask s t j : ℕ) → Passed board answer mask s → Passed board answer mask t → j < parametersOf board .ballots → bit s j ≢ bit t j
-        → Summed (boardAt (parametersOf board) board) (disclosureAt (parametersOf board) (answer mask s)) (disclosureAt (parametersOf board) (answer mask t)) j (votes j)
-    summed mask s t j hs ht lj ne =
-        let o = fits .commits mask s mask t j hs ht lj ne in
-        record {
-          openings = o .openings;
-          one = λ c lc. sym (rw (its-parameters mask s hs) at (o .shown₁ c lc));
-          other = λ c lc. sym (rw (its-parameters mask t ht) at (o .shown₂ c lc));
-          sum = rw (its-parameters mask s hs) at (o .sum);
-        }
-
-    -- under mask₀ so many sides pass that fewer than k ballots have one side throughout
-    elsewhere : (mask₀ k : ℕ) → k ≤ parametersOf board .ballots → 2 ^ (parametersOf board .ballots - k) < manyBelow (passes mask₀) (2 ^ parametersOf board .ballots)
-        → (mask sides : ℕ) → Passed board answer mask sides → mask₀ ≢ mask
-        → distance (parametersOf board .modulus) (voteOf (parametersOf board) (answer mask sides)) votes (parametersOf board .ballots) < k
-    elsewhere mask₀ k lk many mask sides h ne = go (below-some (passes mask₀) (2 ^ n) (omega (arith, many)))
-      where
-        p : Parameters
-        p = parametersOf board
-
-        n : ℕ
-        n = p .ballots
-
-        r : List ℕ
-        r = answer mask sides
-
-        -- a list that mask₀ compares and the other mask opens
-        t : Only (lists p) mask₀ mask
-        t =
-            let ((ones-are, low), some) = thrown-iff p mask sides .0 (h .thrown) in
-            let (s₀, l₀, e₀) = below-some (passes mask₀) (2 ^ n) (omega (arith, many)) in
-            let ((ones₀, low₀), some₀) = thrown-iff p mask₀ s₀ .0 (passes-iff mask₀ s₀ .0 e₀ .thrown) in
-            only (lists p) mask₀ mask low₀ low (le-of-eq (ones-are ∙ sym ones₀)) ne
-
-        go : ((s₀ : ℕ) × (s₀ < 2 ^ n) × (passes mask₀ s₀ ≡ true)) → distance (p .modulus) (voteOf p r) votes n < k
-        go (s₀, l₀, e₀) =
-            le-trans (suc-le-suc (few-differ (boardAt p board) (comparisonAt p r₀) (comparisonAt p r) (disclosureAt p r) (passes mask₀) d votes (t .place) (t .below)
-            (rw (f .masks mask₀ s₀ h₀) (t .set)) (rw (f .masks mask sides h) (t .clear)) over (valid board refl mask sides h)
-            (λ s j e. f .sides mask₀ s j (from s e)) (λ s t j es et. summed mask₀ s t j (from s es) (from t et)) alike s₀ e₀))
-            (constant-less (passes mask₀) n k lk many)
-          where
-            from : (s : ℕ) → passes mask₀ s ≡ true → Passed board answer mask₀ s
-            from s e = passes-iff mask₀ s .0 e
-
-            h₀ : Passed board answer mask₀ s₀
-            h₀ = from s₀ e₀
-
-            r₀ : List ℕ
-            r₀ = answer mask₀ s₀
-
-            d : ℕ → Disclosure
-            d s = disclosureAt p (answer mask₀ s)
-
-            over : (s : ℕ) → passes mask₀ s ≡ true → ValidOver (commitment p) (boardAt p board) (comparisonAt p r₀) (d s)
-            over s e = over-comparison p board r₀ (answer mask₀ s) (d s) (second-alike mask₀ s s₀ (from s e) h₀) (valid board refl mask₀ s (from s e))
-
-            alike : (s : ℕ) → passes mask₀ s ≡ true → Alike (boardAt p board) (comparisonAt p r₀) (d s) (disclosureAt p r) (t .place)
-            alike s e j lj c lc =
-                rw (position-alike p r₀ (answer mask₀ s) (second-alike mask₀ s₀ s h₀ (from s e)) (t .place) j (rank-below (valid board refl mask₀ s (from s e)) (t .place) (t .below) (rw (f .masks mask₀ s (from s e)) (t .set))) lj)
-                (u .entries mask₀ s mask sides (t .place) (t .below) (from s e) h (t .set) (t .clear) j lj c lc)
-
-    -- ---- the count
-
-    module _ (k : ℕ) (lk : k ≤ parametersOf board .ballots) where
-      -- a throw that passes with a false result
-      isFalse : ℕ → ℕ → Bool
-      isFalse mask sides = isThrow (parametersOf board) mask sides and acceptsFalse (parametersOf board) answer votes k mask sides
-
-      false-iff : (mask sides : ℕ) → isFalse mask sides ≡ true
-          → (passes mask sides ≡ true) × (k ≤ distance (parametersOf board .modulus) (voteOf (parametersOf board) (answer mask sides)) votes (parametersOf board .ballots))
-      unfolding isFalse acceptsFalse
-      false-iff mask sides e =
-          let (thrown, (accepted, far)) = simp rules at e in
-          (passes-iff mask sides .1 record { thrown = thrown; accepted = accepted }, far)
-
-      -- how many under one mask
-      falseUnder : ℕ → ℕ
-      falseUnder mask = manyBelow (isFalse mask) (2 ^ parametersOf board .ballots)
-
-      false-under : (mask : ℕ) → falseUnder mask ≤ manyBelow (passes mask) (2 ^ parametersOf board .ballots)
-      unfolding falseUnder
-      false-under mask = below-within (isFalse mask) (passes mask) (2 ^ parametersOf board .ballots) (λ sides l e. false-iff mask sides e .0)
-
-      -- few sides pass under each mask
-      few-each : ((mask : ℕ) → mask < 2 ^ lists (parametersOf board) → manyBelow (passes mask) (2 ^ parametersOf board .ballots) ≤ 2 ^ (parametersOf board .ballots - k))
-          → sum falseUnder (2 ^ lists (parametersOf board)) ≤ choices (parametersOf board) * 2 ^ (parametersOf board .ballots - k)
-      unfolding choices falseUnder
-      few-each few =
-          le-trans (sum-most falseUnder (λ mask. oneIf (equal (ones mask) m) * most) (2 ^ lists (parametersOf board)) (λ mask l. at mask l (equal (ones mask) m) refl))
-          (le-of-eq (sum-times (λ mask. oneIf (equal (ones mask) m)) most (2 ^ lists (parametersOf board))
-          ∙ ap (λ (c : ℕ). c * most) (with-ones (lists (parametersOf board)) m)))
-        where
-          m : ℕ
-          m = parametersOf board .compared
-
-          most : ℕ
-          most = 2 ^ (parametersOf board .ballots - k)
-
-          at : (mask : ℕ) → mask < 2 ^ lists (parametersOf board) → (b : Bool) → equal (ones mask) m ≡ b → falseUnder mask ≤ oneIf b * most
-          at mask l true e = omega (arith, false-under mask, few mask l)
-          at mask l false e = omega (arith, below-none (isFalse mask) (2 ^ parametersOf board .ballots) (λ sides ls. refuted (isFalse mask sides) (λ h.
-              let ((o, low), some) = thrown-iff (parametersOf board) mask sides .0 (passes-iff mask sides .0 (false-iff mask sides h .0) .thrown) in
-              never (equal-iff (ones mask) m .1 o) e)))
-
-      -- many pass under one
-      none-elsewhere : (mask₀ : ℕ) → mask₀ < 2 ^ lists (parametersOf board) → 2 ^ (parametersOf board .ballots - k) < manyBelow (passes mask₀) (2 ^ parametersOf board .ballots)
-          → sum falseUnder (2 ^ lists (parametersOf board)) ≤ 2 ^ parametersOf board .ballots
-      unfolding falseUnder
-      none-elsewhere mask₀ l₀ many =
-          le-trans (le-of-eq (sum-only falseUnder (2 ^ lists (parametersOf board)) mask₀ l₀ (λ mask l ne. below-none (isFalse mask) (2 ^ parametersOf board .ballots) (λ sides ls. refuted (isFalse mask sides) (none mask (λ e. ne (sym e)) sides)))))
-          (below-most (isFalse mask₀) (2 ^ parametersOf board .ballots))
-        where
-          none : (mask : ℕ) → mask₀ ≢ mask → (sides : ℕ) → isFalse mask sides ≡ true → ⊥
-          none mask ne sides e =
-              let (h, far) = false-iff mask sides e in
-              let near = elsewhere mask₀ k lk many mask sides (passes-iff mask sides .0 h) ne in
-              omega (arith, far, near)
-
-      pub few-false : throws (parametersOf board) (acceptsFalse (parametersOf board) answer votes k) ≤ mostFalse (parametersOf board) k
-      unfolding throws mostFalse falseUnder isFalse
-      few-false =
-          elim (find {P = Few} {Q = Many} (2 ^ lists (parametersOf board)) (λ mask l. at mask (decLe (manyBelow (passes mask) (2 ^ parametersOf board .ballots)) (2 ^ (parametersOf board .ballots - k))))) [
-            | inl few ↦ omega (arith, few-each few)
-            | inr t ↦ omega (arith, none-elsewhere (t .0) (t .1) (t .2))
-          ]
-        where
-          Few : ℕ → Type 0
-          Few mask = manyBelow (passes mask) (2 ^ parametersOf board .ballots) ≤ 2 ^ (parametersOf board .ballots - k)
-
-          Many : ℕ → Type 0
-          Many mask = 2 ^ (parametersOf board .ballots - k) < manyBelow (passes mask) (2 ^ parametersOf board .ballots)
-
-          at : (mask : ℕ) → Dec (manyBelow (passes mask) (2 ^ parametersOf board .ballots) ≤ 2 ^ (parametersOf board .ballots - k)) → Few mask ⊎ Many mask
-          at mask (yes l) = inl l
-          at mask (no l) = inr (omega arith)
+-- votes at no distance are announced each as often, as demand 3 says it
+pub false-iff : (board : List ℕ) (answer : Strategy) → Family board answer → (mask sides : ℕ) → Passed board answer mask sides
+    → (votes : ℕ → ℕ) → ((j : ℕ) → j < parametersOf board .ballots → votes j < parametersOf board .modulus)
+    → (distance (parametersOf board .modulus) (voteOf (parametersOf board) (answer mask sides)) votes (parametersOf board .ballots) ≡ 0)
+    ↔ ((x : ℕ) → times x (voteOf (parametersOf board) (answer mask sides)) (parametersOf board .ballots) ≡ times x votes (parametersOf board .ballots))
+false-iff board answer f mask sides h votes low =
+    distance-zero (parametersOf board .modulus) (voteOf (parametersOf board) (answer mask sides)) votes (parametersOf board .ballots)
+    (valid board answer f board refl mask sides h .votes-below) low
