@@ -159,7 +159,7 @@ module _ (s : Slices) (outLong : ℕ) (fit : FourBytes s) (h : partOneRefusal s 
       ones30 (highMask (s .parameters .compared)) ones30 (same-sides 0) (high 0 (omega arith))
 
 -- the smallest election: one ballot, two lists, M = 2, every number 1
-pub tiny : Slices
+unfoldable pub tiny : Slices
 tiny =
     record {
       parameters = parameters Unnumbered 2 1 1;
@@ -184,7 +184,7 @@ unfolding tiny
 tiny-ids zero l = omega arith
 tiny-ids (suc i) l = absurd (omega arith)
 
-tiny-fits : FourBytes tiny
+pub tiny-fits : FourBytes tiny
 unfolding tiny electionNumber
 tiny-fits = record { ids = tiny-ids; election = omega arith }
 

@@ -5,26 +5,27 @@ use mathlib.Core.List.{List, _++_}
 use Prim.Native.Nat.{ℕ, _+_, _*_, _^_, _≤_, _<_}
 use native.Mathlib.Omega.{arith}
 use lib.Count.{ones}
-use lib.ListN.{length, take}
+use lib.ListN.{length, replicate}
 use lib.Pow.{pow-pos}
-use Rattle.laws.specs.Tests.{atMost, _and_, refuted, never, and-iff, atMost-iff, by-iff}
+use Rattle.laws.specs.Tests.{atMost, _and_, every, refuted, never, and-iff, atMost-iff, by-iff}
 use Rattle.laws.specs.Faults.{rules}
 use Rattle.laws.specs.Masks.{bit, bit-small}
 use Rattle.laws.specs.Sums.{sum, oneIf, times, times-same, sum-same, sum-none}
 use Rattle.laws.specs.Subsets.{manyBelow, below-none}
+use Rattle.laws.specs.Binomials.{binomial}
 use Rattle.laws.specs.Distances.{distance, distance-same, distance-zero}
 use Rattle.laws.specs.Tables.{tabulate, get-tabulate}
 use Rattle.protocol.specs.declared.Parameters.{Parameters}
 use Rattle.protocol.specs.Terms.{item}
 use Rattle.protocol.specs.Layout.{lists, atFirstDice, atSecondDice}
 use Rattle.protocol.specs.Record.{Board, Comparison, Disclosure, parametersOf, maskOf, sideOf, voteOf, partOne, partTwo, encoding}
-use Rattle.protocol.specs.Rules.{fairDice, rightShape}
+use Rattle.protocol.specs.Rules.{fairDie, fairDice}
 use Rattle.protocol.specs.Inputs.{Slices, inputsOf}
 use Rattle.protocol.specs.Refusals.{partOneRefusal}
 use Rattle.protocol.specs.Servers.{announced, postedBoard, postedComparison, postedDisclosure, firstPart, secondPart}
 use Rattle.protocol.specs.Election.{chosen, maskBy, sidesBy, electionMask, electionTwo, electionSides, electionThree, electionRecord}
 use Rattle.protocol.specs.Demand3.{beforeFirstDice, beforeSecondDice, Commits}
-use Rattle.protocol.specs.Throws.{Strategy, isThrow, throws, allThrows, accepts, acceptsFalse, served, Passed, Family, Fits}
+use Rattle.protocol.specs.Throws.{Strategy, isThrow, throws, allThrows, choices, accepts, acceptsFalse, served, Passed, Family, Fits}
 use Rattle.protocol.proofs.Fitting.{Fits as Fitting}
 use Rattle.protocol.proofs.Goodness.{FourBytes, Good}
 use Rattle.protocol.proofs.Unrefused.{shape-iff, binary-iff}
@@ -33,9 +34,9 @@ use Rattle.protocol.proofs.Standing.{read-before-first-dice, read-befor
 use Rattle.protocol.proofs.Accepting.{accepts-iff}
 use Rattle.protocol.proofs.Completeness.{Taken, written, board, comparison, disclosure, is-encoding, fits, written-parameters, written-accepted}
 use Rattle.protocol.proofs.Committing.{announced-often, written-commits}
-use Rattle.protocol.proofs.Meetable.{lowMask, low-shaped, good, original}
+use Rattle.protocol.proofs.Meetable.{lowMask, low-shaped, good, original, tiny, tiny-fits, tiny-part-one}
 use Rattle.protocol.proofs.Passing.{accepts-stands, parameters-of, thrown-iff}
-use Rattle.protocol.proofs.Shares.{throws-same, throws-none}
+use Rattle.protocol.proofs.Shares.{throws-same, throws-none, all-throws}
 
 -- dice that the servers take
 pub record Fair (dice : List ℕ) : Type 0 where
@@ -175,3 +176,28 @@ module _ (s : Slices) (outLong : ℕ) (fit : FourBytes s) (unrefused : partOneRe
       (λ mask sides e. refuted (acceptsFalse (s .parameters) (served s dice₁ dice₂) (inputsOf s .vote) k mask sides) (λ h.
           let (accepted, far) = simp rules at h in
           omega (arith, far, no-distance mask sides e)))
+
+-- ---- of the smallest election there are four throws; all pass, none falsely
+
+abbrev allOnes : List ℕ
+allOnes = replicate 30 49
+
+ones-fair : Fair allOnes
+unfolding fairDice fairDie every atMost _and_
+ones-fair = record { long = refl; fair = refl }
+
+abbrev tinyServed : Strategy
+tinyServed = served tiny (λ mask. allOnes) (λ mask sides. allOnes)
+
+pub tiny-family : Family (firstPart tiny) tinyServed
+tiny-family = served-family tiny 597 tiny-fits tiny-part-one (λ mask. allOnes) (λ mask sides. allOnes) (λ mask. ones-fair) (λ mask sides. ones-fair)
+
+pub tiny-all : throws (tiny .parameters) (accepts tinyServed) ≡ 4
+unfolding tiny choices binomial
+tiny-all =
+    served-all tiny 597 tiny-fits tiny-part-one (λ mask. allOnes) (λ mask sides. allOnes) (λ mask. ones-fair) (λ mask sides. ones-fair)
+    ∙ all-throws (tiny .parameters)
+
+pub tiny-none : throws (tiny .parameters) (acceptsFalse (tiny .parameters) tinyServed (inputsOf tiny .vote) 1) ≡ 0
+tiny-none =
+    served-none tiny 597 tiny-fits tiny-part-one (λ mask. allOnes) (λ mask sides. allOnes) (λ mask. ones-fair) (λ mask sides. ones-fair) 1 (omega arith)

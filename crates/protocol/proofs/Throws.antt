@@ -8,12 +8,17 @@ use Prim.Native.Nat.{ℕ, _*_, _^_, _≤_, _<_}
 use native.Mathlib.Nat.{le-refl, le-trans, mul-le-mul}
 use native.Mathlib.Omega.{arith}
 use lib.Pow.{pow-mono}
+use Rattle.laws.specs.Tests.{below}
+use Rattle.laws.specs.Faults.{rule, located, _then_, numberOf}
 use Rattle.laws.specs.Search.{_>>=_}
 use Rattle.laws.specs.Sums.{times}
 use Rattle.laws.specs.Binomials.{binomial, two-choices}
 use Rattle.laws.specs.Distances.{distance, distance-zero}
 use Rattle.protocol.specs.Record.{parametersOf, voteOf}
-use Rattle.protocol.specs.Throws.{Strategy, throws, allThrows, choices, oneIn, acceptsFalse, Passed, Family, Fits, AnswersTwice, FewFalse}
+use Rattle.protocol.specs.Answers.{answerOf}
+use Rattle.protocol.specs.Rules.{faultWith}
+use Rattle.protocol.specs.Judging.{foundWith, firstFault, judged}
+use Rattle.protocol.specs.Throws.{Strategy, throws, allThrows, choices, oneIn, accepts, acceptsFalse, isDone, Passed, Family, Fits, AnswersTwice, FewFalse}
 use Rattle.protocol.proofs.Passing.{valid, unambiguous, few-false}
 use Rattle.protocol.proofs.Fittable.{some-fit}
 use Rattle.protocol.proofs.Shares.{share, twelve}
@@ -60,3 +65,8 @@ pub false-iff : (board : List ℕ) (answer : Strategy) → Family board answer �
 false-iff board answer f mask sides h votes low =
     distance-zero (parametersOf board .modulus) (voteOf (parametersOf board) (answer mask sides)) votes (parametersOf board .ballots)
     (valid board answer f board refl mask sides h .votes-below) low
+
+-- no answer: an empty record is refused
+pub no-answer : (mask sides : ℕ) → accepts (λ mask sides. []) mask sides ≡ false
+unfolding accepts isDone judged answerOf numberOf firstFault _then_ foundWith located faultWith rule below
+no-answer mask sides = refl

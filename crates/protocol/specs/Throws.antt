@@ -1,9 +1,10 @@
--- Beyond the demands: how many throws of the dice a false result can pass. Demand 3 speaks of three records, this of what would be answered
--- to every throw. The claim (`proofs/Throws`): fix the bytes before command 04. To each throw, a choice of m lists out of 2m and of n sides,
--- whoever posts answers with a record or not at all. What he answers has that mask, those sides and those bytes, and for one mask the same
--- bytes before command 06. Then two accepted answers show a posted commitment opened in two ways; or of all throws at most
--- max (2^n, C 2^(n - k)) have an accepted answer that announces votes which differ in at least k places from what the ballots commit, C being
--- the number of choices of lists.
+-- Beyond the demands: how many throws of the dice a false result can pass. Demand 3 speaks of three records, this of what would be
+-- answered to every throw. The claim, `few-or-twice` in `proofs/Throws`:
+--   Fix the bytes before command 04. To each throw, a choice of m lists out of 2m and of n sides, whoever posts answers with a record or
+--   not at all. What he answers has that mask, those sides and those bytes, and for one mask the same bytes before command 06. Then
+--   two accepted answers show a posted commitment opened in two ways; or, whatever votes fit what accepted answers show of the ballots, at
+--   most max (2^n, C * 2^(n - k)) throws have an accepted answer whose votes differ from them in at least k places, for every k up to n. C
+--   is the number of choices of lists.
 use mathlib.Core.Path.{_≡_}
 use mathlib.Core.Logic.{_≢_}
 use mathlib.Core.Bool.{Bool, true, false}
@@ -26,10 +27,35 @@ use Rattle.protocol.specs.Inputs.{Slices}
 use Rattle.protocol.specs.Election.{chosen, electionRecord}
 use Rattle.protocol.specs.Demand3.{beforeFirstDice, beforeSecondDice, Commits, OpenedTwice}
 
--- ---- throws and answers
+-- ---- throws
 
--- what is answered to the throw of a mask and of sides, bit j of which is the side of ballot j. Where nothing is answered, it is a record that
--- is refused, as the empty one.
+module _ (p : Parameters) where
+  -- "a choice of m lists out of 2m and of n sides": bit j of the second number is the side of ballot j
+  unfoldable pub isThrow : ℕ → ℕ → Bool
+  isThrow mask sides = rightShape (p .compared) mask and below sides (2 ^ p .ballots)
+
+  -- how many throws meet a test, of all masks of 2m bits and all sides
+  unfoldable pub throws : (ℕ → ℕ → Bool) → ℕ
+  throws test = sum (λ mask. manyBelow (λ sides. isThrow mask sides and test mask sides) (2 ^ p .ballots)) (2 ^ lists p)
+
+  unfoldable pub allThrows : ℕ
+  allThrows = throws (λ mask sides. true)
+
+  -- "the number of choices of lists"
+  unfoldable pub choices : ℕ
+  choices = binomial (lists p) (p .compared)
+
+  -- "at most max (2^n, C * 2^(n - k)) throws"
+  unfoldable pub mostFalse : ℕ → ℕ
+  mostFalse k = max (2 ^ p .ballots) (choices * 2 ^ (p .ballots - k))
+
+  -- .. that is at most one throw in so many
+  unfoldable pub oneIn : ℕ → ℕ
+  oneIn k = min choices (2 ^ k)
+
+-- ---- answers
+
+-- "answers with a record or not at all": the record for a mask and sides. A refused one stands for none, as the empty one does.
 abbrev pub Strategy : Type 0
 Strategy = ℕ → ℕ → List ℕ
 
@@ -37,48 +63,24 @@ unfoldable pub isDone : Answer → Bool
 isDone (done values) = true
 isDone (refused number) = false
 
-module _ (p : Parameters) where
-  -- "a choice of m lists out of 2m and of n sides"
-  unfoldable pub isThrow : ℕ → ℕ → Bool
-  isThrow mask sides = rightShape (p .compared) mask and below sides (2 ^ p .ballots)
-
-  -- how many throws meet a test: of all masks of 2m bits and all sides
-  unfoldable pub throws : (ℕ → ℕ → Bool) → ℕ
-  throws test = sum (λ mask. manyBelow (λ sides. isThrow mask sides and test mask sides) (2 ^ p .ballots)) (2 ^ lists p)
-
-  unfoldable pub allThrows : ℕ
-  allThrows = throws (λ mask sides. true)
-
-  -- C
-  unfoldable pub choices : ℕ
-  choices = binomial (lists p) (p .compared)
-
-  -- "at most max (2^n, C 2^(n - k))"
-  unfoldable pub mostFalse : ℕ → ℕ
-  mostFalse k = max (2 ^ p .ballots) (choices * 2 ^ (p .ballots - k))
-
-  -- .. which is at most one throw in so many
-  unfoldable pub oneIn : ℕ → ℕ
-  oneIn k = min choices (2 ^ k)
-
 -- plain judging accepts the answer
 unfoldable pub accepts : Strategy → ℕ → ℕ → Bool
 accepts answer mask sides = isDone (judged false (answer mask sides))
 
--- what honest servers answer: the record that they write with this mask and these sides given, whatever the dice are
-unfoldable pub served : Slices → (ℕ → List ℕ) → (ℕ → ℕ → List ℕ) → Strategy
-served s dice₁ dice₂ mask sides =
-    electionRecord s (chosen mask) (dice₁ mask) (chosen (tabulate (bit sides) (s .parameters .ballots))) (dice₂ mask sides)
-
--- .. and it announces votes that differ from these in at least k places
+-- .. and its "votes differ from them in at least k places", in whichever order they stand
 unfoldable pub acceptsFalse : Parameters → Strategy → (ℕ → ℕ) → ℕ → ℕ → ℕ → Bool
 acceptsFalse p answer votes k mask sides =
     accepts answer mask sides and atMost k (distance (p .modulus) (voteOf p (answer mask sides)) votes (p .ballots))
 
--- ---- the answers to all throws over one board, the bytes before command 04
+-- what honest servers answer: the record that they write with this mask and these sides given, whatever the dice show
+unfoldable pub served : Slices → (ℕ → List ℕ) → (ℕ → ℕ → List ℕ) → Strategy
+served s dice₁ dice₂ mask sides =
+    electionRecord s (chosen mask) (dice₁ mask) (chosen (tabulate (bit sides) (s .parameters .ballots))) (dice₂ mask sides)
+
+-- ---- the claim, over a board, the bytes before command 04, and the answers to all throws
 
 module _ (board : List ℕ) (answer : Strategy) where
-  -- the throws whose answer is accepted
+  -- a throw whose answer is accepted. Of other answers nothing is asked.
   pub record Passed (mask sides : ℕ) : Type 0 where
     pub thrown : isThrow (parametersOf board) mask sides ≡ true
     pub accepted : accepts answer mask sides ≡ true
@@ -90,15 +92,16 @@ module _ (board : List ℕ) (answer : Strategy) where
     pub masks : (mask sides : ℕ) → Passed mask sides → maskOf (parametersOf board) (answer mask sides) ≡ mask
     pub sides : (mask sides j : ℕ) → Passed mask sides → j < parametersOf board .ballots
         → sideOf (parametersOf board) (answer mask sides) j ≡ bit sides j
-    -- "for one mask the same bytes before command 06": links know nothing of the sides
-    pub links : (mask one other : ℕ) → Passed mask one → Passed mask other → beforeSecondDice (answer mask one) ≡ beforeSecondDice (answer mask other)
+    -- "for one mask the same bytes before command 06": links are posted before the sides are thrown
+    pub links : (mask one other : ℕ) → Passed mask one → Passed mask other
+        → beforeSecondDice (answer mask one) ≡ beforeSecondDice (answer mask other)
 
-  -- "what the ballots commit": votes that are the sum of a ballot's six numbers wherever two accepted answers show both of its sides
+  -- "votes fit what accepted answers show of the ballots": they are the sum of a ballot's six numbers wherever both of its sides are shown
   pub record Fits (votes : ℕ → ℕ) : Type 0 where
     pub commits : (mask₁ sides₁ mask₂ sides₂ j : ℕ) → Passed mask₁ sides₁ → Passed mask₂ sides₂ → j < parametersOf board .ballots
         → bit sides₁ j ≢ bit sides₂ j → Commits (answer mask₁ sides₁) (answer mask₂ sides₂) j (votes j)
 
-  -- "two accepted answers show a posted commitment opened in two ways"
+  -- "two accepted answers show a posted commitment opened in two ways"; the first stands for two of demand 3's three records
   pub record AnswersTwice : Type 0 where
     pub mask₁ : ℕ
     pub sides₁ : ℕ
@@ -108,7 +111,7 @@ module _ (board : List ℕ) (answer : Strategy) where
     pub passed₂ : Passed mask₂ sides₂
     pub opened : OpenedTwice (answer mask₁ sides₁) (answer mask₁ sides₁) (answer mask₂ sides₂)
 
-  -- the other case: there are votes that fit, and to all that do few throws are answered falsely
+  -- the other case; there are votes that fit
   pub record FewFalse : Type 0 where
     pub committed : ℕ → ℕ
     pub fits : Fits committed
