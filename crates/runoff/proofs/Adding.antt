@@ -4,11 +4,10 @@ use mathlib.Core.Bool.{Bool, true, false, not}
 use mathlib.Core.List.{List, [], _∷_}
 use Prim.Native.Nat.{ℕ, zero, suc, _+_, _≤_, _<_}
 use native.Mathlib.Decide.{ℕ-discrete}
-use native.Mathlib.Nat.{le-refl}
 use native.Mathlib.Omega.{arith}
 use lib.ListN.{length}
 use Rattle.laws.specs.Tests.{pick, equal, differ, _and_, is-equal, not-equal, is-differ, not-differ, and-go, and-stop}
-use Rattle.laws.specs.Sums.{oneIf, sum}
+use Rattle.laws.specs.Sums.{oneIf, sum, sum-add, sum-none}
 use Rattle.laws.specs.Counting.{howMany, many-split}
 use Rattle.runoff.specs.Ranking.{ranking, valid, blank, spoiled, firstStanding, countsFor}
 use Rattle.runoff.specs.Rounds.{support, counting, blankVotes, spoiledVotes}
@@ -53,14 +52,6 @@ kinds candidates [] = refl
 kinds candidates (vote ∷ votes) = omega (arith, one-kind candidates vote, kinds candidates votes)
 
 -- ---- the votes that count are those for the candidates
-
-sum-add : (f g : ℕ → ℕ) (n : ℕ) → sum (λ i. f i + g i) n ≡ sum f n + sum g n
-sum-add f g zero = omega arith
-sum-add f g (suc n) = omega (arith, sum-add f g n)
-
-sum-none : (f : ℕ → ℕ) (n : ℕ) → ((i : ℕ) → i < n → f i ≡ 0) → sum f n ≡ 0
-sum-none f zero h = refl
-sum-none f (suc n) h = omega (arith, h n (le-refl (suc n)), sum-none f n (λ i l. h i (omega arith)))
 
 -- a number of at most n is 0 or one of 1 to n
 one-of-them : (k n : ℕ) → k ≤ n → sum (λ i. oneIf (equal k (suc i))) n ≡ oneIf (differ k 0)
