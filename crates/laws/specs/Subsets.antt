@@ -5,6 +5,7 @@ use mathlib.Core.Bool.{Bool, true, false}
 use Prim.Native.Nat.{ℕ, zero, suc, _+_, _*_, _^_, _≤_, _<_}
 use native.Mathlib.Nat.{le-refl}
 use native.Mathlib.Omega.{arith}
+use Rattle.laws.specs.Tests.{below, is-below, not-below}
 use Rattle.laws.specs.Sums.{sum, oneIf, sum-none, sum-most, sum-join}
 
 -- how many numbers below n meet a test
@@ -30,6 +31,16 @@ below-all t (suc n) h = omega (arith, ap oneIf (h n (le-refl (suc n))), below-al
 
 pub below-most : (t : ℕ → Bool) (n : ℕ) → manyBelow t n ≤ n
 below-most t n = rw (below-all (λ i. true) n (λ i l. refl)) at (below-within t (λ i. true) n (λ i l e. refl))
+
+-- the numbers below a, of a + b
+pub below-first : (a b : ℕ) → manyBelow (λ i. below i a) (a + b) ≡ a
+below-first a b =
+    sum-join (λ i. oneIf (below i a)) a b
+    ∙ omega (
+      arith,
+      below-all (λ i. below i a) a (λ i l. is-below l),
+      below-none (λ i. below (a + i) a) b (λ i l. not-below {a = a + i} {b = a} (omega arith)),
+    )
 
 -- numbers below 2 ^ (n + 1): those without bit n, and those with it
 pub below-double : (t : ℕ → Bool) (n : ℕ) → manyBelow t (2 ^ suc n) ≡ manyBelow t (2 ^ n) + manyBelow (λ i. t (2 ^ n + i)) (2 ^ n)

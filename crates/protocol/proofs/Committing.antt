@@ -22,33 +22,35 @@ use Rattle.protocol.proofs.Reading.{read-parameters, read-id, read-ball
 use Rattle.protocol.proofs.Completeness.{Taken, written, board, comparison, disclosure, is-encoding, fits}
 
 -- six openings of each ballot, of which two records show three each, and the votes that they make
-module _ (b : Board) (k₁ k₂ : Comparison) (d₁ d₂ : Disclosure) (f₁ : Fits b k₁ d₁) (f₂ : Fits b k₂ d₂) (openings : ℕ → ℕ → List ℕ) (vote : ℕ → ℕ)
+module _ (b : Board) (k₁ k₂ : Comparison) (d₁ d₂ : Disclosure) (f₁ : Fits b k₁ d₁) (f₂ : Fits b k₂ d₂) (openings : ℕ → ℕ → List ℕ)
     (shown₁ : (j c : ℕ) → j < b .parameters .ballots → c < 3 → openings j (2 * c + d₁ .side j) ≡ d₁ .ballotOpening j c)
     (shown₂ : (j c : ℕ) → j < b .parameters .ballots → c < 3 → openings j (2 * c + d₂ .side j) ≡ d₂ .ballotOpening j c)
-    (gives : (j q : ℕ) → j < b .parameters .ballots → q < 6 → commitment (b .parameters) (InBallot (b .id j) q) (openings j q) ≡ b .ballotCommitment j q)
-    (sums : (j : ℕ) → j < b .parameters .ballots
-    → vote j ≡ (opened (openings j 0) + opened (openings j 1) + opened (openings j 2) + opened (openings j 3) + opened (openings j 4) + opened (openings j 5)) % b .parameters .modulus) where
-  commits-at : (j : ℕ) → j < b .parameters .ballots → Commits (encoding b k₁ d₁) (encoding b k₂ d₂) j (vote j)
-  commits-at j lj = record {
+    (gives : (j q : ℕ) → j < b .parameters .ballots → q < 6 → commitment (b .parameters) (InBallot (b .id j) q) (openings j q) ≡ b .ballotCommitment j q) where
+  pub commits-at : (j vote : ℕ) → j < b .parameters .ballots
+      → vote ≡ (opened (openings j 0) + opened (openings j 1) + opened (openings j 2) + opened (openings j 3) + opened (openings j 4) + opened (openings j 5)) % b .parameters .modulus
+      → Commits (encoding b k₁ d₁) (encoding b k₂ d₂) j vote
+  commits-at j vote lj sum = record {
     openings = openings j;
     shown₁ = λ c lc. rw (read-parameters b k₁ d₁ f₁, read-side b k₁ d₁ f₁ j lj, read-ballot-opening b k₁ d₁ f₁ j c lj lc) (shown₁ j c lj lc);
     shown₂ = λ c lc. rw (read-parameters b k₂ d₂ f₂, read-side b k₂ d₂ f₂ j lj, read-ballot-opening b k₂ d₂ f₂ j c lj lc) (shown₂ j c lj lc);
     gives = λ q lq. rw (read-parameters b k₁ d₁ f₁, read-id b k₁ d₁ f₁ j lj, read-ballot-commitment b k₁ d₁ f₁ j q lj lq) (gives j q lj lq);
-    sum = rw (read-parameters b k₁ d₁ f₁) (sums j lj);
+    sum = rw (read-parameters b k₁ d₁ f₁) sum;
   }
 
   -- .. and a third record that announces each vote as often
-  announces-them : (k₃ : Comparison) (d₃ : Disclosure) → Fits b k₃ d₃
+  announces-them : (k₃ : Comparison) (d₃ : Disclosure) → Fits b k₃ d₃ → (vote : ℕ → ℕ)
+      → ((j : ℕ) → j < b .parameters .ballots
+      → vote j ≡ (opened (openings j 0) + opened (openings j 1) + opened (openings j 2) + opened (openings j 3) + opened (openings j 4) + opened (openings j 5)) % b .parameters .modulus)
       → ((x : ℕ) → times x (d₃ .vote) (b .parameters .ballots) ≡ times x vote (b .parameters .ballots)) → Announces (encoding b k₁ d₁) (encoding b k₂ d₂) (encoding b k₃ d₃)
-  announces-them k₃ d₃ f₃ often = record {
+  announces-them k₃ d₃ f₃ vote sums often = record {
     committed = vote;
-    commits = λ j lj. commits-at j (rw (read-parameters b k₁ d₁ f₁) at lj);
+    commits = λ j lj. let l = rw (read-parameters b k₁ d₁ f₁) at lj in commits-at j (vote j) l (sums j l);
     as-often = λ x. rw (read-parameters b k₁ d₁ f₁, read-parameters b k₃ d₃ f₃) (times-same x (b .parameters .ballots) (read-vote b k₃ d₃ f₃) ∙ often x);
   }
 
 -- the numbers in a ballot's six openings make its vote
 module _ (s : Inputs) (g : Good s) where
-  vote-is : (j : ℕ) → j < s .parameters .ballots
+  pub vote-is : (j : ℕ) → j < s .parameters .ballots
       → s .vote j ≡ (opened (ballotOpening s j 0) + opened (ballotOpening s j 1) + opened (ballotOpening s j 2) + opened (ballotOpening s j 3) + opened (ballotOpening s j 4) + opened (ballotOpening s j 5)) % s .parameters .modulus
   vote-is j lj =
       rw (
@@ -78,10 +80,10 @@ module _ (s : Slices) (g : Good (inputsOf s)) (dice₁ : List ℕ) (mask₁ : �
   -- the ballots commit the votes cast
   pub written-commits : (j : ℕ) → j < inputsOf s .parameters .ballots → Commits (written s dice₁ mask₁ dice₂ sides₁) (written s dice₃ mask₂ dice₄ sides₂) j (inputsOf s .vote j)
   unfolding board comparison disclosure postedBoard postedComparison postedDisclosure
-  written-commits =
+  written-commits j lj =
       rw (is-encoding s g dice₁ mask₁ dice₂ sides₁ t₁, is-encoding s g dice₃ mask₂ dice₄ sides₂ t₂)
       (commits-at _ _ _ _ _ (fits s g dice₁ mask₁ dice₂ sides₁ t₁) (fits s g dice₃ mask₂ dice₄ sides₂ t₂)
-      (ballotOpening (inputsOf s)) (inputsOf s .vote) (λ j c lj lc. refl) (λ j c lj lc. refl) (λ j q lj lq. refl) (vote-is (inputsOf s) g))
+      (ballotOpening (inputsOf s)) (λ j c lj lc. refl) (λ j c lj lc. refl) (λ j q lj lq. refl) j (inputsOf s .vote j) lj (vote-is (inputsOf s) g j lj))
 
   -- and the third announces each as often
   pub written-announced : (dice₅ : List ℕ) (mask₃ : ℕ) (dice₆ sides₃ : List ℕ) → Taken s dice₅ mask₃ dice₆ sides₃
@@ -90,5 +92,5 @@ module _ (s : Slices) (g : Good (inputsOf s)) (dice₁ : List ℕ) (mask₁ : �
   written-announced dice₅ mask₃ dice₆ sides₃ t₃ =
       rw (is-encoding s g dice₁ mask₁ dice₂ sides₁ t₁, is-encoding s g dice₃ mask₂ dice₄ sides₂ t₂, is-encoding s g dice₅ mask₃ dice₆ sides₃ t₃)
       (announces-them _ _ _ _ _ (fits s g dice₁ mask₁ dice₂ sides₁ t₁) (fits s g dice₃ mask₂ dice₄ sides₂ t₂)
-      (ballotOpening (inputsOf s)) (inputsOf s .vote) (λ j c lj lc. refl) (λ j c lj lc. refl) (λ j q lj lq. refl) (vote-is (inputsOf s) g)
-      _ _ (fits s g dice₅ mask₃ dice₆ sides₃ t₃) (announced-often (inputsOf s) g))
+      (ballotOpening (inputsOf s)) (λ j c lj lc. refl) (λ j c lj lc. refl) (λ j q lj lq. refl)
+      _ _ (fits s g dice₅ mask₃ dice₆ sides₃ t₃) (inputsOf s .vote) (vote-is (inputsOf s) g) (announced-often (inputsOf s) g))

@@ -9,8 +9,8 @@ use native.Mathlib.Decide.{decLe}
 use native.Mathlib.Omega.{arith}
 use lib.Count.{ones}
 use lib.Pow.{pow-add, pow-mono}
-use Rattle.laws.specs.Tests.{equal, _and_, refuted, never, equal-iff, and-iff, and-stop, is-equal}
-use Rattle.laws.specs.Sums.{sum, oneIf, times, sum-same, sum-none, sum-times}
+use Rattle.laws.specs.Tests.{equal, _and_, refuted, never, equal-iff, and-iff, and-go, and-stop, and-last-stop, is-equal, not-equal}
+use Rattle.laws.specs.Sums.{sum, oneIf, times, sum-same, sum-none, sum-only, sum-times}
 use Rattle.laws.specs.Subsets.{manyBelow, below-none, below-all}
 use Rattle.laws.specs.Binomials.{binomial, with-ones, two-choices}
 use Rattle.laws.specs.Distances.{distance, distance-zero}
@@ -43,31 +43,45 @@ module _ (p : Parameters) where
           let (thrown, met) = and-iff (isThrow p mask sides) (t mask sides) .0 e in
           never met (h mask sides thrown))))
 
-  -- ---- all throws
+  -- ---- how many there are
 
-  -- under one mask: as many as there are sides, or none
-  under : (mask : ℕ) → mask < 2 ^ lists p
-      → manyBelow (λ sides. isThrow p mask sides and true) (2 ^ p .ballots) ≡ oneIf (equal (ones mask) (p .compared)) * 2 ^ p .ballots
-  under mask l = go (equal (ones mask) (p .compared)) refl
+  -- of a test of the sides, under one mask: all that meet it, or none
+  under : (t : ℕ → Bool) (mask : ℕ) → mask < 2 ^ lists p
+      → manyBelow (λ sides. isThrow p mask sides and t sides) (2 ^ p .ballots) ≡ oneIf (equal (ones mask) (p .compared)) * manyBelow t (2 ^ p .ballots)
+  under t mask l = go (equal (ones mask) (p .compared)) refl
     where
-      go : (b : Bool) → equal (ones mask) (p .compared) ≡ b → manyBelow (λ sides. isThrow p mask sides and true) (2 ^ p .ballots) ≡ oneIf b * 2 ^ p .ballots
+      go : (b : Bool) → equal (ones mask) (p .compared) ≡ b → manyBelow (λ sides. isThrow p mask sides and t sides) (2 ^ p .ballots) ≡ oneIf b * manyBelow t (2 ^ p .ballots)
       go true e =
-          below-all (λ sides. isThrow p mask sides and true) (2 ^ p .ballots)
-          (λ sides ls. and-iff (isThrow p mask sides) true .1 (thrown-iff p mask sides .1 ((equal-iff (ones mask) (p .compared) .0 e, l), ls), refl))
+          sum-same (λ sides. oneIf (isThrow p mask sides and t sides)) (λ sides. oneIf (t sides)) (2 ^ p .ballots)
+          (λ sides ls. ap oneIf (sym (and-go (isThrow p mask sides) (t sides) (thrown-iff p mask sides .1 ((equal-iff (ones mask) (p .compared) .0 e, l), ls)) refl)))
           ∙ omega arith
       go false e =
-          below-none (λ sides. isThrow p mask sides and true) (2 ^ p .ballots)
-          (λ sides ls. refuted (isThrow p mask sides and true) (λ h.
-              let ((o, low), some) = thrown-iff p mask sides .0 (and-iff (isThrow p mask sides) true .0 h .0) in
+          below-none (λ sides. isThrow p mask sides and t sides) (2 ^ p .ballots)
+          (λ sides ls. refuted (isThrow p mask sides and t sides) (λ h.
+              let ((o, low), some) = thrown-iff p mask sides .0 (and-iff (isThrow p mask sides) (t sides) .0 h .0) in
               never (is-equal o) e))
           ∙ omega arith
 
+  pub throws-sides : (t : ℕ → Bool) → throws p (λ mask sides. t sides) ≡ choices p * manyBelow t (2 ^ p .ballots)
+  unfolding throws choices
+  throws-sides t =
+      sum-same (λ mask. manyBelow (λ sides. isThrow p mask sides and t sides) (2 ^ p .ballots)) (λ mask. oneIf (equal (ones mask) (p .compared)) * manyBelow t (2 ^ p .ballots)) (2 ^ lists p) (under t)
+      ∙ sum-times (λ mask. oneIf (equal (ones mask) (p .compared))) (manyBelow t (2 ^ p .ballots)) (2 ^ lists p)
+      ∙ ap (λ (c : ℕ). c * manyBelow t (2 ^ p .ballots)) (with-ones (lists p) (p .compared))
+
   pub all-throws : allThrows p ≡ choices p * 2 ^ p .ballots
-  unfolding allThrows throws choices
-  all-throws =
-      sum-same (λ mask. manyBelow (λ sides. isThrow p mask sides and true) (2 ^ p .ballots)) (λ mask. oneIf (equal (ones mask) (p .compared)) * 2 ^ p .ballots) (2 ^ lists p) under
-      ∙ sum-times (λ mask. oneIf (equal (ones mask) (p .compared))) (2 ^ p .ballots) (2 ^ lists p)
-      ∙ ap (λ (c : ℕ). c * 2 ^ p .ballots) (with-ones (lists p) (p .compared))
+  unfolding allThrows
+  all-throws = throws-sides (λ sides. true) ∙ ap (λ (c : ℕ). choices p * c) (below-all (λ sides. true) (2 ^ p .ballots) (λ sides l. refl))
+
+  -- of one mask
+  pub throws-mask : (mask₀ : ℕ) → ones mask₀ ≡ p .compared → mask₀ < 2 ^ lists p → throws p (λ mask sides. equal mask mask₀) ≡ 2 ^ p .ballots
+  unfolding throws
+  throws-mask mask₀ o low =
+      sum-only (λ mask. manyBelow (λ sides. isThrow p mask sides and equal mask mask₀) (2 ^ p .ballots)) (2 ^ lists p) mask₀ low
+      (λ mask l ne. below-none (λ sides. isThrow p mask sides and equal mask mask₀) (2 ^ p .ballots)
+      (λ sides ls. sym (and-last-stop (isThrow p mask sides) (equal mask mask₀) (not-equal ne))))
+      ∙ below-all (λ sides. isThrow p mask₀ sides and equal mask₀ mask₀) (2 ^ p .ballots)
+      (λ sides ls. and-iff (isThrow p mask₀ sides) (equal mask₀ mask₀) .1 (thrown-iff p mask₀ sides .1 ((o, low), ls), is-equal refl))
 
   -- ---- the bound as a share of them
 
