@@ -50,4 +50,5 @@ pub mod Passing
 pub mod Fittable
 pub mod Shares
 pub mod Throws
+pub mod Posting
 pub mod Served

@@ -1,188 +1,131 @@
 -- Hypotheses can be met: what honest servers answer to all throws is such a family; every throw passes, and none with a false result.
-use mathlib.Core.Path.{_≡_, refl, sym, ap, subst, _∙_}
+use mathlib.Core.Path.{_≡_, refl, sym, ap, _∙_}
 use mathlib.Core.Bool.{Bool, true, false}
-use mathlib.Core.List.{List, _++_}
-use Prim.Native.Nat.{ℕ, _+_, _*_, _^_, _≤_, _<_}
+use mathlib.Core.List.{List}
+use Prim.Native.Nat.{ℕ, _≤_, _<_}
 use native.Mathlib.Omega.{arith}
-use lib.Count.{ones}
 use lib.ListN.{length, replicate}
-use lib.Pow.{pow-pos}
-use Rattle.laws.specs.Tests.{atMost, _and_, every, refuted, never, and-iff, atMost-iff, by-iff}
-use Rattle.laws.specs.Faults.{rules}
+use Rattle.laws.specs.Tests.{pick, atMost, _and_, every, and-last-stop, not-atMost}
 use Rattle.laws.specs.Masks.{bit, bit-small}
-use Rattle.laws.specs.Sums.{sum, oneIf, times, times-same, sum-same, sum-none}
-use Rattle.laws.specs.Subsets.{manyBelow, below-none}
 use Rattle.laws.specs.Binomials.{binomial}
 use Rattle.laws.specs.Distances.{distance, distance-same, distance-zero}
 use Rattle.laws.specs.Tables.{tabulate, get-tabulate}
-use Rattle.protocol.specs.declared.Parameters.{Parameters}
 use Rattle.protocol.specs.Terms.{item}
-use Rattle.protocol.specs.Layout.{lists, atFirstDice, atSecondDice}
-use Rattle.protocol.specs.Record.{Board, Comparison, Disclosure, parametersOf, maskOf, sideOf, voteOf, partOne, partTwo, encoding}
+use Rattle.protocol.specs.Record.{Comparison, Disclosure, encoding}
 use Rattle.protocol.specs.Rules.{fairDie, fairDice}
 use Rattle.protocol.specs.Inputs.{Slices, inputsOf}
 use Rattle.protocol.specs.Refusals.{partOneRefusal}
-use Rattle.protocol.specs.Servers.{announced, postedBoard, postedComparison, postedDisclosure, firstPart, secondPart}
+use Rattle.protocol.specs.Servers.{announced, ballotOpening, postedBoard, postedComparison, postedDisclosure, firstPart, secondPart, thirdPart}
 use Rattle.protocol.specs.Election.{chosen, maskBy, sidesBy, electionMask, electionTwo, electionSides, electionThree, electionRecord}
-use Rattle.protocol.specs.Demand3.{beforeFirstDice, beforeSecondDice, Commits}
-use Rattle.protocol.specs.Throws.{Strategy, isThrow, throws, allThrows, choices, accepts, acceptsFalse, served, Passed, Family, Fits}
-use Rattle.protocol.proofs.Fitting.{Fits as Fitting}
+use Rattle.protocol.specs.Stands.{Original}
+use Rattle.protocol.specs.Throws.{Strategy, isThrow, throws, allThrows, choices, accepts, acceptsFalse, served, Family, Fits}
 use Rattle.protocol.proofs.Goodness.{FourBytes, Good}
+use Rattle.protocol.proofs.Honesty.{Chosen, honest-fits, honest-valid}
+use Rattle.protocol.proofs.Unrefused as unrefusing
 use Rattle.protocol.proofs.Unrefused.{shape-iff, binary-iff}
-use Rattle.protocol.proofs.Reading.{read-parameters, read-mask, read-side, read-vote}
-use Rattle.protocol.proofs.Standing.{read-before-first-dice, read-before-second-dice}
-use Rattle.protocol.proofs.Accepting.{accepts-iff}
-use Rattle.protocol.proofs.Completeness.{Taken, written, board, comparison, disclosure, is-encoding, fits, written-parameters, written-accepted}
-use Rattle.protocol.proofs.Committing.{announced-often, written-commits}
-use Rattle.protocol.proofs.Meetable.{lowMask, low-shaped, good, original, tiny, tiny-fits, tiny-part-one}
-use Rattle.protocol.proofs.Passing.{accepts-stands, parameters-of, thrown-iff}
+use Rattle.protocol.proofs.Committing.{vote-is, announced-often}
+use Rattle.protocol.proofs.Meetable.{good, original, tiny, tiny-fits, tiny-part-one}
+use Rattle.protocol.proofs.Passing.{thrown-iff}
 use Rattle.protocol.proofs.Shares.{throws-same, throws-none, all-throws}
+use Rattle.protocol.proofs.Posting.{posting, Keeps, posted-verdict, posting-family, posting-fits, posting-false}
 
 -- dice that the servers take
 pub record Fair (dice : List ℕ) : Type 0 where
   pub long : length dice ≡ 30
   pub fair : fairDice dice ≡ true
 
+-- ---- what honest servers say
+
+module _ (s : Slices) (dice₁ : ℕ → List ℕ) (dice₂ : ℕ → ℕ → List ℕ) where
+  abbrev pub compares : ℕ → Comparison
+  compares mask = postedComparison (inputsOf s) (dice₁ mask) mask
+
+  abbrev pub discloses : ℕ → ℕ → Disclosure
+  discloses mask sides = postedDisclosure (inputsOf s) (dice₂ mask sides) (item (tabulate (bit sides) (s .parameters .ballots)))
+
+  -- their answers are the records that say it
+  is-posting : served s dice₁ dice₂ ≡ posting (postedBoard (inputsOf s)) compares discloses (λ mask sides. true)
+  unfolding served electionRecord electionTwo electionThree electionSides electionMask maskBy sidesBy firstPart secondPart thirdPart posting encoding postedBoard postedComparison
+  is-posting = refl
+
+module _ (s : Slices) (g : Good (inputsOf s)) (dice₁ : ℕ → List ℕ) (dice₂ : ℕ → ℕ → List ℕ)
+    (fair₁ : (mask : ℕ) → Fair (dice₁ mask)) (fair₂ : (mask sides : ℕ) → Fair (dice₂ mask sides)) where
+  pub thrown-chosen : (mask sides : ℕ) → isThrow (s .parameters) mask sides ≡ true
+      → Chosen (inputsOf s) (dice₁ mask) (dice₂ mask sides) mask (item (tabulate (bit sides) (s .parameters .ballots)))
+  thrown-chosen mask sides e =
+      let ((o, low), some) = thrown-iff (s .parameters) mask sides .0 e in
+      let sides-are = tabulate (bit sides) (s .parameters .ballots) in
+      unrefusing.chosen s (dice₁ mask) (dice₂ mask sides) mask sides-are (fair₁ mask .long) (fair₁ mask .fair) (fair₂ mask sides .long) (fair₂ mask sides .fair)
+      (shape-iff (s .parameters .compared) mask .1 (o, low))
+      (binary-iff s sides-are .1 (λ j lj. rw (get-tabulate (bit sides) (s .parameters .ballots) j lj) (omega (arith, bit-small sides j))))
+
+  -- whichever throws they answer
+  pub honest-keeps : Original (postedBoard (inputsOf s)) → (willing : ℕ → ℕ → Bool)
+      → Keeps (postedBoard (inputsOf s)) (compares s dice₁ dice₂) (discloses s dice₁ dice₂) willing
+  unfolding inputsOf postedBoard postedComparison postedDisclosure
+  honest-keeps original willing = record {
+    fits = λ mask sides e. honest-fits (inputsOf s) g (thrown-chosen mask sides e);
+    valid = λ mask sides e w. honest-valid (inputsOf s) g (thrown-chosen mask sides e);
+    original = original;
+    masks = λ mask. refl;
+    sides = λ mask sides j lj. get-tabulate (bit sides) (s .parameters .ballots) j lj;
+  }
+
+  -- each vote is announced as often as it was cast
+  pub as-cast : (votes : ℕ → ℕ) → distance (s .parameters .modulus) (item (announced (inputsOf s))) votes (s .parameters .ballots)
+      ≡ distance (s .parameters .modulus) (item (s .votes)) votes (s .parameters .ballots)
+  unfolding inputsOf
+  as-cast votes =
+      distance-same (s .parameters .modulus) (item (announced (inputsOf s))) (item (s .votes)) votes (s .parameters .ballots) (announced-often (inputsOf s) g)
+
+-- ---- to all throws
+
 module _ (s : Slices) (outLong : ℕ) (fit : FourBytes s) (unrefused : partOneRefusal s outLong ≡ 0)
     (dice₁ : ℕ → List ℕ) (dice₂ : ℕ → ℕ → List ℕ) (fair₁ : (mask : ℕ) → Fair (dice₁ mask)) (fair₂ : (mask sides : ℕ) → Fair (dice₂ mask sides)) where
   g : Good (inputsOf s)
   g = good s outLong fit unrefused
 
-  -- the sides of a throw, as the third call is given them
-  sidesOf : ℕ → List ℕ
-  sidesOf sides = tabulate (bit sides) (s .parameters .ballots)
-
-  is-written : (mask sides : ℕ) → served s dice₁ dice₂ mask sides ≡ written s (dice₁ mask) mask (dice₂ mask sides) (sidesOf sides)
-  unfolding served electionRecord electionTwo electionThree electionSides electionMask maskBy sidesBy written sidesOf
-  is-written mask sides = refl
-
-  taken : (mask sides : ℕ) → isThrow (s .parameters) mask sides ≡ true → Taken s (dice₁ mask) mask (dice₂ mask sides) (sidesOf sides)
-  unfolding sidesOf
-  taken mask sides e =
-      let ((o, low), some) = thrown-iff (s .parameters) mask sides .0 e in
-      record {
-        first-long = fair₁ mask .long;
-        first-fair = fair₁ mask .fair;
-        second-long = fair₂ mask sides .long;
-        second-fair = fair₂ mask sides .fair;
-        shape = shape-iff (s .parameters .compared) mask .1 (o, low);
-        binary = binary-iff s (tabulate (bit sides) (s .parameters .ballots)) .1 (λ j lj. rw (get-tabulate (bit sides) (s .parameters .ballots) j lj) (omega (arith, bit-small sides j)));
-      }
-
-  module _ (mask sides : ℕ) (e : isThrow (s .parameters) mask sides ≡ true) where
-    -- what the record says
-    b : Board
-    b = board s g (dice₁ mask) mask (dice₂ mask sides) (sidesOf sides) (taken mask sides e)
-
-    k : Comparison
-    k = comparison s g (dice₁ mask) mask (dice₂ mask sides) (sidesOf sides) (taken mask sides e)
-
-    d : Disclosure
-    d = disclosure s g (dice₁ mask) mask (dice₂ mask sides) (sidesOf sides) (taken mask sides e)
-
-    is-encoded : served s dice₁ dice₂ mask sides ≡ encoding b k d
-    unfolding b k d
-    is-encoded = is-written mask sides ∙ is-encoding s g (dice₁ mask) mask (dice₂ mask sides) (sidesOf sides) (taken mask sides e)
-
-    fitting : Fitting b k d
-    unfolding b k d
-    fitting = fits s g (dice₁ mask) mask (dice₂ mask sides) (sidesOf sides) (taken mask sides e)
-
-    before-first : beforeFirstDice (served s dice₁ dice₂ mask sides) ≡ firstPart s
-    unfolding firstPart b board
-    before-first = rw is-encoded (read-before-first-dice b k d fitting)
-
-    before-second : beforeSecondDice (served s dice₁ dice₂ mask sides) ≡ firstPart s ++ secondPart s (dice₁ mask) mask
-    unfolding firstPart secondPart b k board comparison postedBoard
-    before-second = rw is-encoded (read-before-second-dice b k d fitting)
-
-    its-mask : maskOf (s .parameters) (served s dice₁ dice₂ mask sides) ≡ mask
-    unfolding b k board comparison postedBoard postedComparison inputsOf
-    its-mask = rw is-encoded (read-mask b k d fitting)
-
-    its-side : (j : ℕ) → j < s .parameters .ballots → sideOf (s .parameters) (served s dice₁ dice₂ mask sides) j ≡ bit sides j
-    unfolding b d board disclosure postedBoard postedDisclosure inputsOf sidesOf
-    its-side j lj = rw is-encoded (read-side b k d fitting j lj) ∙ get-tabulate (bit sides) (s .parameters .ballots) j lj
-
-    its-votes : (j : ℕ) → j < s .parameters .ballots → voteOf (s .parameters) (served s dice₁ dice₂ mask sides) j ≡ item (announced (inputsOf s)) j
-    unfolding b d board disclosure postedBoard postedDisclosure inputsOf
-    its-votes j lj = rw is-encoded (read-vote b k d fitting j lj)
-
-    its-parameters : parametersOf (served s dice₁ dice₂ mask sides) ≡ s .parameters
-    its-parameters = ap parametersOf (is-written mask sides) ∙ written-parameters s g (dice₁ mask) mask (dice₂ mask sides) (sidesOf sides) (taken mask sides e)
-
-    its-verdict : accepts (served s dice₁ dice₂) mask sides ≡ true
-    its-verdict =
-        accepts-stands (served s dice₁ dice₂) mask sides .1
-        (rw (is-written mask sides) (accepts-iff (written s (dice₁ mask) mask (dice₂ mask sides) (sidesOf sides)) .0
-        (written-accepted s g (dice₁ mask) mask (dice₂ mask sides) (sidesOf sides) (taken mask sides e) (original s outLong fit unrefused))))
-
-  -- ---- such a family
-
-  -- there is a throw: the lower lists, all on side 0
-  some-throw : isThrow (s .parameters) (lowMask (s .parameters .compared)) 0 ≡ true
-  some-throw =
-      let h = low-shaped (s .parameters .compared) in
-      thrown-iff (s .parameters) (lowMask (s .parameters .compared)) 0 .1 ((h .mask-ones, h .mask-below), pow-pos (s .parameters .ballots))
-
-  pub board-parameters : parametersOf (firstPart s) ≡ s .parameters
-  board-parameters =
-      let mask = lowMask (s .parameters .compared) in
-      sym (parameters-of (firstPart s) (served s dice₁ dice₂ mask 0) (before-first mask 0 some-throw)) ∙ its-parameters mask 0 some-throw
-
-  thrown : {mask sides : ℕ} → Passed (firstPart s) (served s dice₁ dice₂) mask sides → isThrow (s .parameters) mask sides ≡ true
-  thrown h = rw board-parameters at (h .thrown)
+  keeps : Keeps (postedBoard (inputsOf s)) (compares s dice₁ dice₂) (discloses s dice₁ dice₂) (λ mask sides. true)
+  keeps = honest-keeps s g dice₁ dice₂ fair₁ fair₂ (original s outLong fit unrefused) (λ mask sides. true)
 
   pub served-family : Family (firstPart s) (served s dice₁ dice₂)
-  served-family = record {
-    boards = λ mask sides h. before-first mask sides (thrown h);
-    masks = λ mask sides h. rw board-parameters (its-mask mask sides (thrown h));
-    sides = λ mask sides j h lj. rw board-parameters (its-side mask sides (thrown h) j (rw board-parameters at lj));
-    links = λ mask one other h₁ h₂. before-second mask one (thrown h₁) ∙ sym (before-second mask other (thrown h₂));
-  }
+  unfolding firstPart
+  served-family = rw (is-posting s dice₁ dice₂) (posting-family _ _ _ _ keeps)
 
   -- the votes cast fit it
-  pub served-fits : Fits (firstPart s) (served s dice₁ dice₂) (inputsOf s .vote)
-  unfolding inputsOf
-  served-fits = record {
-    commits = λ mask₁ sides₁ mask₂ sides₂ j h₁ h₂ lj ne.
-        rw (is-written mask₁ sides₁, is-written mask₂ sides₂)
-        (written-commits s g (dice₁ mask₁) mask₁ (dice₂ mask₁ sides₁) (sidesOf sides₁) (taken mask₁ sides₁ (thrown h₁))
-        (dice₁ mask₂) mask₂ (dice₂ mask₂ sides₂) (sidesOf sides₂) (taken mask₂ sides₂ (thrown h₂)) j (rw board-parameters at lj));
-  }
+  pub served-fits : Fits (firstPart s) (served s dice₁ dice₂) (item (s .votes))
+  unfolding firstPart inputsOf postedBoard postedDisclosure
+  served-fits =
+      rw (is-posting s dice₁ dice₂)
+      (posting-fits _ _ _ _ keeps (ballotOpening (inputsOf s)) (item (s .votes)) (λ mask sides j c lj lc. refl) (λ j q lj lq. refl)
+      (λ mask₁ sides₁ mask₂ sides₂ j w₁ w₂ lj ne. vote-is (inputsOf s) g j lj))
 
-  -- ---- every throw passes, none falsely
-
+  -- every throw passes
   pub served-all : throws (s .parameters) (accepts (served s dice₁ dice₂)) ≡ allThrows (s .parameters)
-  unfolding allThrows
-  served-all = throws-same (s .parameters) (accepts (served s dice₁ dice₂)) (λ mask sides. true) its-verdict
+  unfolding allThrows inputsOf postedBoard
+  served-all =
+      rw (is-posting s dice₁ dice₂)
+      (throws-same (s .parameters) (accepts (posting (postedBoard (inputsOf s)) (compares s dice₁ dice₂) (discloses s dice₁ dice₂) (λ mask sides. true))) (λ mask sides. true)
+      (posted-verdict _ _ _ _ keeps))
 
-  -- each vote is announced as often as it was cast
-  no-distance : (mask sides : ℕ) → isThrow (s .parameters) mask sides ≡ true
-      → distance (s .parameters .modulus) (voteOf (s .parameters) (served s dice₁ dice₂ mask sides)) (inputsOf s .vote) (s .parameters .ballots) ≡ 0
-  unfolding inputsOf
-  no-distance mask sides e =
-      let M : ℕ = s .parameters .modulus in
-      let n : ℕ = s .parameters .ballots in
-      let low : (j : ℕ) → j < n → item (s .votes) j < M = g .votes-below in
-      distance-same M (voteOf (s .parameters) (served s dice₁ dice₂ mask sides)) (item (s .votes)) (item (s .votes)) n
-      (λ x. times-same x n (its-votes mask sides e) ∙ announced-often (inputsOf s) g x)
-      ∙ distance-zero M (item (s .votes)) (item (s .votes)) n low low .1 (λ x. refl)
-
-  pub served-none : (k : ℕ) → 1 ≤ k → throws (s .parameters) (acceptsFalse (s .parameters) (served s dice₁ dice₂) (inputsOf s .vote) k) ≡ 0
-  unfolding acceptsFalse
+  -- and none falsely
+  pub served-none : (k : ℕ) → 1 ≤ k → throws (s .parameters) (acceptsFalse (s .parameters) (served s dice₁ dice₂) (item (s .votes)) k) ≡ 0
+  unfolding inputsOf postedBoard postedDisclosure
   served-none k l =
-      throws-none (s .parameters) (acceptsFalse (s .parameters) (served s dice₁ dice₂) (inputsOf s .vote) k)
-      (λ mask sides e. refuted (acceptsFalse (s .parameters) (served s dice₁ dice₂) (inputsOf s .vote) k mask sides) (λ h.
-          let (accepted, far) = simp rules at h in
-          omega (arith, far, no-distance mask sides e)))
+      rw (is-posting s dice₁ dice₂)
+      (posting-false _ _ _ _ keeps (item (s .votes)) k
+      ∙ throws-none (s .parameters) (λ mask sides. true and atMost k (distance (s .parameters .modulus) (item (announced (inputsOf s))) (item (s .votes)) (s .parameters .ballots)))
+      (λ mask sides e. sym (and-last-stop true _ (not-atMost (omega (arith, none))))))
+    where
+      none : distance (s .parameters .modulus) (item (announced (inputsOf s))) (item (s .votes)) (s .parameters .ballots) ≡ 0
+      none = as-cast s g dice₁ dice₂ fair₁ fair₂ (item (s .votes)) ∙ distance-zero (s .parameters .modulus) (item (s .votes)) (item (s .votes)) (s .parameters .ballots) (g .votes-below) (g .votes-below) .1 (λ x. refl)
 
--- ---- of the smallest election there are four throws; all pass, none falsely
+-- ---- of the smallest election there are four throws
 
 abbrev allOnes : List ℕ
 allOnes = replicate 30 49
 
-ones-fair : Fair allOnes
+pub ones-fair : Fair allOnes
 unfolding fairDice fairDie every atMost _and_
 ones-fair = record { long = refl; fair = refl }
 
@@ -198,6 +141,6 @@ tiny-all =
     served-all tiny 597 tiny-fits tiny-part-one (λ mask. allOnes) (λ mask sides. allOnes) (λ mask. ones-fair) (λ mask sides. ones-fair)
     ∙ all-throws (tiny .parameters)
 
-pub tiny-none : throws (tiny .parameters) (acceptsFalse (tiny .parameters) tinyServed (inputsOf tiny .vote) 1) ≡ 0
+pub tiny-none : throws (tiny .parameters) (acceptsFalse (tiny .parameters) tinyServed (item (tiny .votes)) 1) ≡ 0
 tiny-none =
     served-none tiny 597 tiny-fits tiny-part-one (λ mask. allOnes) (λ mask sides. allOnes) (λ mask. ones-fair) (λ mask sides. ones-fair) 1 (omega arith)
