@@ -52,3 +52,5 @@ pub mod Shares
 pub mod Throws
 pub mod Posting
 pub mod Served
+pub mod Guessing
+pub mod Reached

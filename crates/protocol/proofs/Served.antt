@@ -34,6 +34,14 @@ pub record Fair (dice : List ℕ) : Type 0 where
   pub long : length dice ≡ 30
   pub fair : fairDice dice ≡ true
 
+-- each vote is announced as often as it was cast
+pub as-cast : (s : Slices) → Good (inputsOf s) → (votes : ℕ → ℕ)
+    → distance (s .parameters .modulus) (item (announced (inputsOf s))) votes (s .parameters .ballots)
+    ≡ distance (s .parameters .modulus) (item (s .votes)) votes (s .parameters .ballots)
+unfolding inputsOf
+as-cast s g votes =
+    distance-same (s .parameters .modulus) (item (announced (inputsOf s))) (item (s .votes)) votes (s .parameters .ballots) (announced-often (inputsOf s) g)
+
 -- ---- what honest servers say
 
 module _ (s : Slices) (dice₁ : ℕ → List ℕ) (dice₂ : ℕ → ℕ → List ℕ) where
@@ -70,13 +78,6 @@ module _ (s : Slices) (g : Good (inputsOf s)) (dice₁ : ℕ → List ℕ) (dice
     masks = λ mask. refl;
     sides = λ mask sides j lj. get-tabulate (bit sides) (s .parameters .ballots) j lj;
   }
-
-  -- each vote is announced as often as it was cast
-  pub as-cast : (votes : ℕ → ℕ) → distance (s .parameters .modulus) (item (announced (inputsOf s))) votes (s .parameters .ballots)
-      ≡ distance (s .parameters .modulus) (item (s .votes)) votes (s .parameters .ballots)
-  unfolding inputsOf
-  as-cast votes =
-      distance-same (s .parameters .modulus) (item (announced (inputsOf s))) (item (s .votes)) votes (s .parameters .ballots) (announced-often (inputsOf s) g)
 
 -- ---- to all throws
 
@@ -118,11 +119,11 @@ module _ (s : Slices) (outLong : ℕ) (fit : FourBytes s) (unrefused : partOneRe
       (λ mask sides e. sym (and-last-stop true _ (not-atMost (omega (arith, none))))))
     where
       none : distance (s .parameters .modulus) (item (announced (inputsOf s))) (item (s .votes)) (s .parameters .ballots) ≡ 0
-      none = as-cast s g dice₁ dice₂ fair₁ fair₂ (item (s .votes)) ∙ distance-zero (s .parameters .modulus) (item (s .votes)) (item (s .votes)) (s .parameters .ballots) (g .votes-below) (g .votes-below) .1 (λ x. refl)
+      none = as-cast s g (item (s .votes)) ∙ distance-zero (s .parameters .modulus) (item (s .votes)) (item (s .votes)) (s .parameters .ballots) (g .votes-below) (g .votes-below) .1 (λ x. refl)
 
 -- ---- of the smallest election there are four throws
 
-abbrev allOnes : List ℕ
+abbrev pub allOnes : List ℕ
 allOnes = replicate 30 49
 
 pub ones-fair : Fair allOnes

@@ -117,3 +117,13 @@ module _ (board : List ℕ) (answer : Strategy) where
     pub fits : Fits committed
     pub few : (votes : ℕ → ℕ) → Fits votes → (k : ℕ) → k ≤ parametersOf board .ballots
         → throws (parametersOf board) (acceptsFalse (parametersOf board) answer votes k) ≤ mostFalse (parametersOf board) k
+
+-- "at most" is reached: a board over these parameters, a family of answers and votes that fit, with just so many false ones
+pub record Reached (p : Parameters) (k : ℕ) : Type 0 where
+  pub board : List ℕ
+  pub answer : Strategy
+  pub votes : ℕ → ℕ
+  pub parameters : parametersOf board ≡ p
+  pub family : Family board answer
+  pub fits : Fits board answer votes
+  pub reached : throws p (acceptsFalse p answer votes k) ≡ mostFalse p k

@@ -1,0 +1,146 @@
+-- The bound is reached, for every k up to n, in every election in which all voted alike: by the better of two guesses.
+use mathlib.Core.Path.{_≡_, refl, sym, ap, _∙_}
+use mathlib.Core.Logic.{_≢_}
+use mathlib.Core.Bool.{Bool, true, false}
+use mathlib.Core.List.{List}
+use Prim.Native.Nat.{ℕ, zero, suc, _+_, _-_, _*_, _^_, _≤_, _<_}
+use native.Mathlib.Decide.{decLt, decLe}
+use native.Mathlib.Nat.{le-refl, zero-add}
+use native.Mathlib.Omega.{arith}
+use lib.Dec.{eqb}
+use lib.ListN.{replicate, getD-replicate}
+use borrow.Author.Tests.{eq-eqb, ne-eqb}
+use Rattle.laws.specs.Tests.{pick, below, is-below, not-below}
+use Rattle.laws.specs.Sums.{oneIf, times, sum-same, sum-one}
+use Rattle.laws.specs.Subsets.{below-first}
+use Rattle.laws.specs.Distances.{distance, distance-surplus}
+use Rattle.protocol.specs.Terms.{item}
+use Rattle.protocol.specs.Inputs.{Slices, inputsOf, ballotNumbers, listNumbers, listPermutations, ballotKeys, entryKeys}
+use Rattle.protocol.specs.Servers.{postedBoard}
+use Rattle.protocol.specs.Stands.{Original}
+use Rattle.protocol.specs.Throws.{Strategy, choices, mostFalse, Reached}
+use Rattle.protocol.proofs.Goodness.{Good}
+use Rattle.protocol.proofs.Meetable.{lowMask, low-shaped, good, original, tiny, tiny-fits, tiny-part-one}
+use Rattle.protocol.proofs.Served.{allOnes, ones-fair}
+use Rattle.protocol.proofs.Guessing.{Passes, others, sides-guessed, mask-guessed}
+
+-- how often a number is in a list of n that has it at its first c places, and another one behind
+often : (a b c r : ℕ) (f : ℕ → ℕ) → a ≢ b → ((j : ℕ) → j < c → f j ≡ a) → ((j : ℕ) → c ≤ j → j < c + r → f j ≡ b) → times a f (c + r) ≡ c
+often a b c r f ne early late =
+    sum-same (λ j. oneIf (eqb a (f j))) (λ j. oneIf (below j c)) (c + r) (λ j l. ap oneIf (at j l (decLt j c))) ∙ below-first c r
+  where
+    at : (j : ℕ) → j < c + r → Dec (j < c) → eqb a (f j) ≡ below j c
+    at j l (yes k) = eq-eqb a (f j) (sym (early j k)) ∙ sym (is-below k)
+    at j l (no k) = ne-eqb a (f j) (λ e. ne (e ∙ late j (omega arith) l)) ∙ sym (not-below (omega arith))
+
+-- lists of which one has it n times and the other n - k times are k apart
+apart : (M a n k : ℕ) (f g : ℕ → ℕ) → k ≤ n → a < M → ((j : ℕ) → j < n → f j < M) → times a f n ≡ n → times a g n ≡ n - k → k ≤ distance M f g n
+apart M a n k f g lk la low hf hg = omega (arith, distance-surplus M f g n low, sum-one (λ x. times x f n - times x g n) M a la)
+
+module _ (s : Slices) (g : Good (inputsOf s)) (original : Original (postedBoard (inputsOf s))) (a b : ℕ) (ne : a ≢ b)
+    (alike : (j : ℕ) → j < s .parameters .ballots → item (s .votes) j ≡ a) (low : b < s .parameters .modulus) where
+  abbrev M : ℕ
+  M = s .parameters .modulus
+
+  abbrev n : ℕ
+  n = s .parameters .ballots
+
+  allOther : List ℕ
+  allOther = replicate n b
+
+  other-item : (j : ℕ) → j < n → item allOther j ≡ b
+  unfolding allOther
+  other-item j lj = getD-replicate n j b 0 lj
+
+  others-good : Good (inputsOf (others s allOther))
+  unfolding inputsOf ballotNumbers listNumbers listPermutations ballotKeys entryKeys
+  others-good = record {
+    election-fits = g .election-fits;
+    modulus-low = g .modulus-low;
+    modulus-high = g .modulus-high;
+    ballots-low = g .ballots-low;
+    ballots-high = g .ballots-high;
+    compared-low = g .compared-low;
+    compared-high = g .compared-high;
+    ids-fit = g .ids-fit;
+    ids-rise = g .ids-rise;
+    votes-below = λ j lj. rw (other-item j lj) low;
+    x-below = g .x-below;
+    y-below = g .y-below;
+    first-halves-below = g .first-halves-below;
+    offsets-below = g .offsets-below;
+    entry-first-halves-below = g .entry-first-halves-below;
+    permutations = g .permutations;
+    ballot-keys = g .ballot-keys;
+    entry-keys = g .entry-keys;
+  }
+
+  -- the votes cast, but for the last k, which are the other one
+  changed : ℕ → ℕ → ℕ
+  changed k j = pick (below j (n - k)) a b
+
+  changed-early : (k j : ℕ) → j < n - k → changed k j ≡ a
+  unfolding changed
+  changed-early k j l = ap (λ (t : Bool). pick t a b) (is-below l)
+
+  changed-late : (k j : ℕ) → n - k ≤ j → changed k j ≡ b
+  unfolding changed
+  changed-late k j l = ap (λ (t : Bool). pick t a b) (not-below l)
+
+  cast-low : (j : ℕ) → j < n → item (s .votes) j < M
+  unfolding inputsOf
+  cast-low = g .votes-below
+
+  changed-far : (k : ℕ) → k ≤ n → k ≤ distance M (item (s .votes)) (changed k) n
+  unfolding inputsOf
+  changed-far k lk =
+      let e : n ≡ n - k + k = omega arith in
+      let z : n ≡ n + 0 = omega arith in
+      apart M a n k (item (s .votes)) (changed k) lk (rw (alike 0 (g .ballots-low)) at (cast-low 0 (g .ballots-low))) cast-low
+      (ap (times a (item (s .votes))) z ∙ often a b n 0 (item (s .votes)) ne alike (λ j l m. absurd (omega arith)))
+      (ap (times a (changed k)) e ∙ often a b (n - k) k (changed k) ne (changed-early k) (λ j l m. changed-late k j l))
+
+  others-far : (k : ℕ) → k ≤ n → k ≤ distance M (item allOther) (item (s .votes)) n
+  others-far k lk =
+      let z : n ≡ n + 0 = omega arith in
+      let far : n ≤ distance M (item allOther) (item (s .votes)) n =
+          apart M b n n (item allOther) (item (s .votes)) (le-refl n) low (λ j lj. rw (other-item j lj) low)
+          (ap (times b (item allOther)) z ∙ often b a n 0 (item allOther) (λ e. ne (sym e)) other-item (λ j l m. absurd (omega arith)))
+          (ap (times b (item (s .votes))) (sym (zero-add n)) ∙ often b a 0 n (item (s .votes)) (λ e. ne (sym e)) (λ j l. absurd (omega arith)) (λ j l m. alike j (rw (zero-add n) at m)) ∙ omega arith) in
+      omega (arith, far)
+
+  -- so many throws pass falsely for every k, by the better of two guesses
+  pub reached : (k : ℕ) → k ≤ n → Reached (s .parameters) k
+  unfolding mostFalse
+  reached k lk = go (decLe (choices (s .parameters) * 2 ^ (n - k)) (2 ^ n))
+    where
+      from : {board : List ℕ} {answer : Strategy} {votes : ℕ → ℕ} {count : ℕ} → Passes (s .parameters) board answer votes k count → count ≡ mostFalse (s .parameters) k → Reached (s .parameters) k
+      from {board} {answer} {votes} t e =
+          record { board = board; answer = answer; votes = votes; parameters = t .parameters; family = t .family; fits = t .fits; reached = t .counted ∙ e }
+
+      go : Dec (choices (s .parameters) * 2 ^ (n - k) ≤ 2 ^ n) → Reached (s .parameters) k
+      go (yes l) =
+          let h = low-shaped (s .parameters .compared) in
+          from (mask-guessed s g original (λ mask. allOnes) (λ mask sides. allOnes) (λ mask. ones-fair) (λ mask sides. ones-fair) allOther others-good
+          (lowMask (s .parameters .compared)) (h .mask-ones) (h .mask-below) k (others-far k lk)) (omega arith)
+      go (no l) =
+          from (sides-guessed s g original (λ mask. allOnes) (λ mask sides. allOnes) (λ mask. ones-fair) (λ mask sides. ones-fair) k lk (changed k)
+          (λ j lj. changed-early k j lj ∙ sym (alike j (omega arith))) (changed-far k lk)) (omega arith)
+
+-- in the smallest election: two throws of four
+tiny-vote : (j : ℕ) → j < tiny .parameters .ballots → item (tiny .votes) j ≡ 1
+unfolding tiny
+tiny-vote zero l = refl
+tiny-vote (suc j) l = absurd (omega arith)
+
+tiny-low : 0 < tiny .parameters .modulus
+unfolding tiny
+tiny-low = omega arith
+
+tiny-one : 1 ≤ tiny .parameters .ballots
+unfolding tiny
+tiny-one = omega arith
+
+pub tiny-reached : Reached (tiny .parameters) 1
+tiny-reached =
+    reached tiny (good tiny 597 tiny-fits tiny-part-one) (original tiny 597 tiny-fits tiny-part-one) 1 0 (λ e. omega (arith, e)) tiny-vote tiny-low 1 tiny-one
