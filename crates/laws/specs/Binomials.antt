@@ -1,5 +1,5 @@
 -- Choices of k out of n, and numbers below 2 ^ n some of whose bits are fixed.
-use mathlib.Core.Path.{_≡_, refl, sym, ap, ap₂, _∙_}
+use mathlib.Core.Path.{_≡_, refl, sym, ap, _∙_}
 use mathlib.Core.Logic.{_≢_}
 use mathlib.Core.Bool.{Bool, true, false}
 use Prim.Native.Nat.{ℕ, zero, suc, _+_, _-_, _*_, _^_, _≤_, _<_}
@@ -9,7 +9,7 @@ use native.Mathlib.Omega.{arith}
 use lib.Count.{ones, ones-cat}
 use lib.Pow.{pow-add, pow-mono, pow-pos}
 use Rattle.laws.specs.Tests.{equal, _or_, _implies_, every, pick, is-equal, not-equal, by-iff, equal-iff, unequal-iff, or-iff, or-fails, implies-iff, implies-fails, every-iff, every-fails, refuted}
-use Rattle.laws.specs.Sums.{sum, oneIf, sum-same}
+use Rattle.laws.specs.Sums.{oneIf, sum-same}
 use Rattle.laws.specs.Masks.{bit, bit-set, bits-below, bit-under, bit-top}
 use Rattle.laws.specs.Subsets.{manyBelow, below-none, below-most, below-double}
 

@@ -7,7 +7,7 @@ use mathlib.Core.List.{List}
 use Prim.Native.Nat.{ℕ, _%_, _≤_, _<_}
 use native.Mathlib.Nat.{le-trans, mod-lt}
 use native.Mathlib.Omega.{arith}
-use Rattle.laws.specs.Tests.{differ, differ-iff, refuted, never}
+use Rattle.laws.specs.Tests.{differ, differ-iff}
 use Rattle.laws.specs.Masks.{bit}
 use Rattle.laws.specs.Permutations.{times-perm}
 use Rattle.laws.specs.Sums.{times}

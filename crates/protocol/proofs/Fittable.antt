@@ -1,5 +1,5 @@
 -- Votes that fit what the accepted answers show of the ballots: there are some, or two answers show a ballot's commitment opened in two ways.
-use mathlib.Core.Path.{_≡_, refl, sym, ap, ap₂, subst, _∙_}
+use mathlib.Core.Path.{_≡_, refl, sym, subst, _∙_}
 use mathlib.Core.Logic.{_⊎_, inl, inr, _≢_}
 use mathlib.Core.Bool.{Bool, true, false}
 use mathlib.Core.List.{List, List-discrete}
@@ -9,19 +9,18 @@ use native.Mathlib.Omega.{arith}
 use lib.ListN.{take}
 use Rattle.laws.specs.Tests.{never}
 use Rattle.laws.specs.Masks.{bit, bit-small}
-use Rattle.laws.specs.Search.{find, all-or, _>>=_}
+use Rattle.laws.specs.Search.{all-or, _>>=_}
 use Rattle.protocol.specs.declared.Parameters.{Parameters}
-use Rattle.protocol.specs.declared.Place.{Place}
 use Rattle.protocol.specs.declared.Place.the-variants.{InBallot}
 use Rattle.protocol.specs.Terms.{commitment, opened}
 use Rattle.protocol.specs.Layout.{lists, atFirstDice}
-use Rattle.protocol.specs.Record.{Board, Comparison, Disclosure, parametersOf, idOf, ballotCommitmentOf, sideOf, ballotOpeningOf}
+use Rattle.protocol.specs.Record.{Disclosure, parametersOf, idOf, ballotCommitmentOf, sideOf, ballotOpeningOf}
 use Rattle.protocol.specs.Stands.{ValidOver}
-use Rattle.protocol.specs.Demand3.{Shown, Commits, CommitsOver, OpenedTwiceOver}
+use Rattle.protocol.specs.Demand3.{Commits, CommitsOver, OpenedTwiceOver}
 use Rattle.protocol.specs.Throws.{Strategy, Passed, Family, Fits, AnswersTwice}
 use Rattle.protocol.proofs.Alike.{id-alike}
 use Rattle.protocol.proofs.Transport.{slot-in}
-use Rattle.protocol.proofs.Committed.{six, both, on-side, off-side}
+use Rattle.protocol.proofs.Committed.{both, on-side, off-side}
 use Rattle.protocol.proofs.Counted.{vote}
 use Rattle.protocol.proofs.Soundness.{boardAt, comparisonAt, disclosureAt, ballot-half-shown, ballot-posted, commits}
 use Rattle.protocol.proofs.Passing.{thrown-iff, passes, passes-iff, its-parameters, first-alike, valid}

@@ -2,7 +2,7 @@
 -- only under the mask that he guessed.
 use mathlib.Core.Path.{_≡_, refl, sym, ap, _∙_}
 use mathlib.Core.Logic.{_≢_}
-use mathlib.Core.Bool.{Bool, true, false}
+use mathlib.Core.Bool.{Bool, true}
 use mathlib.Core.List.{List}
 use Prim.Native.Nat.{ℕ, zero, suc, _+_, _-_, _*_, _^_, _≤_, _<_}
 use native.Mathlib.Decide.{decLt}
@@ -14,11 +14,11 @@ use Rattle.laws.specs.Tests.{equal, below, choose, choose-clear, choose-set, eq
 use Rattle.laws.specs.Masks.{bit, bits-below}
 use Rattle.laws.specs.Subsets.{manyBelow, below-first}
 use Rattle.laws.specs.Distances.{distance}
-use Rattle.laws.specs.Tables.{tabulate, get-tabulate}
+use Rattle.laws.specs.Tables.{get-tabulate}
 use Rattle.protocol.specs.declared.Parameters.{Parameters}
 use Rattle.protocol.specs.Terms.{item}
 use Rattle.protocol.specs.Layout.{lists}
-use Rattle.protocol.specs.Record.{Board, Comparison, Disclosure, parametersOf, partOne}
+use Rattle.protocol.specs.Record.{Board, Disclosure, parametersOf, partOne}
 use Rattle.protocol.specs.Inputs.{Slices, given, inputsOf}
 use Rattle.protocol.specs.Servers.{announced, ballotOpening, postedBoard, postedComparison, postedDisclosure}
 use Rattle.protocol.specs.Stands.{Valid, Original}

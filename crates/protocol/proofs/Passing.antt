@@ -6,35 +6,33 @@ use mathlib.Core.Path.{_≡_, refl, sym, ap, subst, _∙_}
 use mathlib.Core.Logic.{_⊎_, inl, inr, _≢_, _↔_}
 use mathlib.Core.Bool.{Bool, true, false}
 use mathlib.Core.List.{List, []}
-use Prim.Native.Nat.{ℕ, zero, suc, _+_, _-_, _*_, _^_, _≤_, _<_, max, suc-le-suc}
+use Prim.Native.Nat.{ℕ, zero, suc, _-_, _*_, _^_, _≤_, _<_, suc-le-suc}
 use native.Mathlib.Nat.{le-refl, le-trans, le-of-eq}
 use native.Mathlib.Decide.{ℕ-discrete, decLe}
 use native.Mathlib.Omega.{arith}
 use lib.Count.{ones}
 use lib.ListN.{take}
 use lib.Seq.{take-take}
-use Rattle.laws.specs.Tests.{equal, below, atMost, _and_, never, refuted, equal-iff, below-iff, and-iff, is-atMost, atMost-iff}
-use Rattle.laws.specs.Masks.{bit, bit-set, Only, only}
+use Rattle.laws.specs.Tests.{equal, below, _and_, never, refuted, equal-iff, and-iff}
+use Rattle.laws.specs.Masks.{bit, Only, only}
 use Rattle.laws.specs.Faults.{numberOf, rules}
 use Rattle.laws.specs.Search.{find, all-or, _>>=_}
-use Rattle.laws.specs.Sums.{sum, oneIf, sum-same, sum-none, sum-most, sum-only, sum-times}
+use Rattle.laws.specs.Sums.{sum, oneIf, sum-most, sum-only, sum-times}
 use Rattle.laws.specs.Subsets.{manyBelow, below-within, below-none, below-most, below-some}
-use Rattle.laws.specs.Binomials.{binomial, with-ones, constant, constant-less}
+use Rattle.laws.specs.Binomials.{with-ones, constant-less}
 use Rattle.laws.specs.Distances.{distance}
 use Rattle.protocol.specs.declared.Parameters.{Parameters}
-use Rattle.protocol.specs.declared.Place.the-variants.{InEntry}
-use Rattle.protocol.specs.Answers.{Answer, done, refused, answerOf, accepted}
+use Rattle.protocol.specs.Answers.{answerOf, accepted}
 use Rattle.protocol.specs.Terms.{commitment}
 use Rattle.protocol.specs.Layout.{lists, atFirstDice, atSecondDice}
-use Rattle.protocol.specs.Record.{Board, Comparison, Disclosure, parametersOf, maskOf, positionOf, sideOf, listOpeningOf, fullOpeningOf, voteOf, entryCommitmentOf}
+use Rattle.protocol.specs.Record.{Disclosure, parametersOf, voteOf}
 use Rattle.protocol.specs.Rules.{rightShape}
 use Rattle.protocol.specs.Judging.{firstFault, judged}
 use Rattle.protocol.specs.Stands.{ValidOver, StandsOver, Stands}
-use Rattle.protocol.specs.Demand3.{beforeFirstDice, beforeSecondDice, CommitsOver, Shown, OpenedTwiceOver}
+use Rattle.protocol.specs.Demand3.{beforeFirstDice, OpenedTwiceOver}
 use Rattle.protocol.specs.Throws.{Strategy, isDone, isThrow, throws, choices, mostFalse, accepts, acceptsFalse, Passed, Family, Fits, AnswersTwice}
 use Rattle.protocol.proofs.Accepting.{accepts-iff}
-use Rattle.protocol.proofs.Alike.{take-less, parameters-within, first-low, entry-alike, mask-alike, position-alike}
-use Rattle.protocol.proofs.Transport.{slot-in}
+use Rattle.protocol.proofs.Alike.{parameters-within, first-low, position-alike}
 use Rattle.protocol.proofs.Counted.{rank-below, Clash, Alike, alike-or}
 use Rattle.protocol.proofs.Soundness.{boardAt, comparisonAt, disclosureAt, over-board, over-comparison, clash-twice}
 use Rattle.protocol.proofs.Differing.{Summed, few-differ}

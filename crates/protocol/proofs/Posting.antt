@@ -3,21 +3,18 @@
 use mathlib.Core.Path.{_≡_, refl, sym, ap, ap₂, _∙_}
 use mathlib.Core.Logic.{_≢_}
 use mathlib.Core.Bool.{Bool, true, false}
-use mathlib.Core.List.{List, [], _++_}
-use Prim.Native.Nat.{ℕ, _+_, _*_, _%_, _≤_, _<_}
-use native.Mathlib.Omega.{arith}
+use mathlib.Core.List.{List, []}
+use Prim.Native.Nat.{ℕ, _+_, _*_, _%_, _<_}
 use lib.Pow.{pow-pos}
 use Rattle.laws.specs.Tests.{pick, atMost, _and_, and-stop}
 use Rattle.laws.specs.Masks.{bit}
-use Rattle.laws.specs.Sums.{times, times-same}
+use Rattle.laws.specs.Sums.{times-same}
 use Rattle.laws.specs.Distances.{distance, distance-same}
 use Rattle.protocol.specs.declared.Parameters.{Parameters}
 use Rattle.protocol.specs.declared.Place.the-variants.{InBallot}
 use Rattle.protocol.specs.Terms.{opened, commitment}
-use Rattle.protocol.specs.Layout.{lists}
-use Rattle.protocol.specs.Record.{Board, Comparison, Disclosure, parametersOf, maskOf, sideOf, voteOf, partOne, partTwo, encoding}
+use Rattle.protocol.specs.Record.{Board, Comparison, Disclosure, parametersOf, voteOf, partOne, encoding}
 use Rattle.protocol.specs.Stands.{Valid, Original}
-use Rattle.protocol.specs.Demand3.{beforeFirstDice, beforeSecondDice}
 use Rattle.protocol.specs.Throws.{Strategy, isThrow, throws, accepts, acceptsFalse, Passed, Family, Fits}
 use Rattle.protocol.proofs.Fitting.{Fits as Fitting}
 use Rattle.protocol.proofs.Reading.{read-parameters, read-mask, read-side, read-vote}

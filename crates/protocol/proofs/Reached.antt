@@ -1,11 +1,11 @@
 -- The bound is reached, for every k up to n, in every election in which all voted alike: by the better of two guesses.
-use mathlib.Core.Path.{_≡_, refl, sym, ap, _∙_}
-use mathlib.Core.Logic.{_≢_}
-use mathlib.Core.Bool.{Bool, true, false}
+use mathlib.Core.Path.{_≡_, sym, ap, _∙_}
+use mathlib.Core.Logic.{_≢_, _⊎_, ⊎-map}
+use mathlib.Core.Bool.{Bool, true}
 use mathlib.Core.List.{List}
-use Prim.Native.Nat.{ℕ, zero, suc, _+_, _-_, _*_, _^_, _≤_, _<_}
+use Prim.Native.Nat.{ℕ, _+_, _-_, _*_, _^_, _≤_, _<_}
 use native.Mathlib.Decide.{decLt, decLe}
-use native.Mathlib.Nat.{le-refl, zero-add}
+use native.Mathlib.Nat.{le-refl, le-of-eq, zero-add}
 use native.Mathlib.Omega.{arith}
 use lib.Dec.{eqb}
 use lib.ListN.{replicate, getD-replicate}
@@ -14,14 +14,18 @@ use Rattle.laws.specs.Tests.{pick, below, is-below, not-below}
 use Rattle.laws.specs.Sums.{oneIf, times, sum-same, sum-one}
 use Rattle.laws.specs.Subsets.{below-first}
 use Rattle.laws.specs.Distances.{distance, distance-surplus}
-use Rattle.protocol.specs.Terms.{item}
+use Rattle.protocol.specs.declared.Parameters.{Parameters}
+use Rattle.protocol.specs.Terms.{item, electionNumber, inLimits}
+use Rattle.protocol.specs.Layout.{partOneLength}
 use Rattle.protocol.specs.Inputs.{Slices, inputsOf, ballotNumbers, listNumbers, listPermutations, ballotKeys, entryKeys}
+use Rattle.protocol.specs.Refusals.{allOriginal}
 use Rattle.protocol.specs.Servers.{postedBoard}
 use Rattle.protocol.specs.Stands.{Original}
 use Rattle.protocol.specs.Throws.{Strategy, choices, mostFalse, Reached}
 use Rattle.protocol.proofs.Goodness.{Good}
-use Rattle.protocol.proofs.Meetable.{lowMask, low-shaped, good, original, tiny, tiny-fits, tiny-part-one}
-use Rattle.protocol.proofs.Served.{allOnes, ones-fair}
+use Rattle.protocol.proofs.Meetable.{lowMask, low-shaped, good, original}
+use Rattle.protocol.proofs.Sizes.{Collision, plain, allOnes, modulus-low, fits, part-one, original-or, one-original}
+use Rattle.protocol.proofs.Served.{ones-fair}
 use Rattle.protocol.proofs.Guessing.{Passes, others, sides-guessed, mask-guessed}
 
 -- how often a number is in a list of n that has it at its first c places, and another one behind
@@ -127,20 +131,18 @@ module _ (s : Slices) (g : Good (inputsOf s)) (original : Original (postedBoard 
           from (sides-guessed s g original (λ mask. allOnes) (λ mask sides. allOnes) (λ mask. ones-fair) (λ mask sides. ones-fair) k lk (changed k)
           (λ j lj. changed-early k j lj ∙ sym (alike j (omega arith))) (changed-far k lk)) (omega arith)
 
--- in the smallest election: two throws of four
-tiny-vote : (j : ℕ) → j < tiny .parameters .ballots → item (tiny .votes) j ≡ 1
-unfolding tiny
-tiny-vote zero l = refl
-tiny-vote (suc j) l = absurd (omega arith)
+-- ---- at every size within the limits, in either form
 
-tiny-low : 0 < tiny .parameters .modulus
-unfolding tiny
-tiny-low = omega arith
+module _ (p : Parameters) (h : inLimits p ≡ true) (numbered : electionNumber (p .form) < 4294967296) where
+  plain-reached : allOriginal (plain p) ≡ true → (k : ℕ) → k ≤ p .ballots → Reached p k
+  plain-reached o =
+      reached (plain p) (good (plain p) (partOneLength p) (fits p h numbered) (part-one p h numbered o))
+      (original (plain p) (partOneLength p) (fits p h numbered) (part-one p h numbered o)) 0 1 (λ e. omega (arith, e))
+      (λ j lj. getD-replicate (p .ballots) j 0 0 lj) (modulus-low p h numbered)
 
-tiny-one : 1 ≤ tiny .parameters .ballots
-unfolding tiny
-tiny-one = omega arith
+  pub reached-or : (k : ℕ) → k ≤ p .ballots → Reached p k ⊎ Collision p
+  reached-or k lk = ⊎-map (λ o. plain-reached o k lk) (λ c. c) (original-or p h numbered)
 
-pub tiny-reached : Reached (tiny .parameters) 1
-tiny-reached =
-    reached tiny (good tiny 597 tiny-fits tiny-part-one) (original tiny 597 tiny-fits tiny-part-one) 1 0 (λ e. omega (arith, e)) tiny-vote tiny-low 1 tiny-one
+  -- of one ballot, without proviso: C throws of 2 C
+  pub reached-one : p .ballots ≡ 1 → Reached p 1
+  reached-one e = plain-reached (one-original p h numbered e) 1 (le-of-eq (sym e))

@@ -1,18 +1,18 @@
 -- Hypotheses can be met: what honest servers answer to all throws is such a family; every throw passes, and none with a false result.
-use mathlib.Core.Path.{_≡_, refl, sym, ap, _∙_}
-use mathlib.Core.Bool.{Bool, true, false}
+use mathlib.Core.Path.{_≡_, refl, sym, _∙_}
+use mathlib.Core.Bool.{Bool, true}
 use mathlib.Core.List.{List}
-use Prim.Native.Nat.{ℕ, _≤_, _<_}
+use Prim.Native.Nat.{ℕ, _≤_}
 use native.Mathlib.Omega.{arith}
-use lib.ListN.{length, replicate}
-use Rattle.laws.specs.Tests.{pick, atMost, _and_, every, and-last-stop, not-atMost}
+use lib.ListN.{length}
+use Rattle.laws.specs.Tests.{atMost, _and_, and-last-stop, not-atMost}
 use Rattle.laws.specs.Masks.{bit, bit-small}
 use Rattle.laws.specs.Binomials.{binomial}
 use Rattle.laws.specs.Distances.{distance, distance-same, distance-zero}
 use Rattle.laws.specs.Tables.{tabulate, get-tabulate}
 use Rattle.protocol.specs.Terms.{item}
 use Rattle.protocol.specs.Record.{Comparison, Disclosure, encoding}
-use Rattle.protocol.specs.Rules.{fairDie, fairDice}
+use Rattle.protocol.specs.Rules.{fairDice}
 use Rattle.protocol.specs.Inputs.{Slices, inputsOf}
 use Rattle.protocol.specs.Refusals.{partOneRefusal}
 use Rattle.protocol.specs.Servers.{announced, ballotOpening, postedBoard, postedComparison, postedDisclosure, firstPart, secondPart, thirdPart}
@@ -25,6 +25,7 @@ use Rattle.protocol.proofs.Unrefused as unrefusing
 use Rattle.protocol.proofs.Unrefused.{shape-iff, binary-iff}
 use Rattle.protocol.proofs.Committing.{vote-is, announced-often}
 use Rattle.protocol.proofs.Meetable.{good, original, tiny, tiny-fits, tiny-part-one}
+use Rattle.protocol.proofs.Sizes.{allOnes, all-fair}
 use Rattle.protocol.proofs.Passing.{thrown-iff}
 use Rattle.protocol.proofs.Shares.{throws-same, throws-none, all-throws}
 use Rattle.protocol.proofs.Posting.{posting, Keeps, posted-verdict, posting-family, posting-fits, posting-false}
@@ -123,12 +124,8 @@ module _ (s : Slices) (outLong : ℕ) (fit : FourBytes s) (unrefused : partOneRe
 
 -- ---- of the smallest election there are four throws
 
-abbrev pub allOnes : List ℕ
-allOnes = replicate 30 49
-
 pub ones-fair : Fair allOnes
-unfolding fairDice fairDie every atMost _and_
-ones-fair = record { long = refl; fair = refl }
+ones-fair = record { long = refl; fair = all-fair }
 
 abbrev tinyServed : Strategy
 tinyServed = served tiny (λ mask. allOnes) (λ mask sides. allOnes)

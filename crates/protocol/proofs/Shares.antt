@@ -1,23 +1,20 @@
 -- How many throws there are, and which share of them a false result can pass.
 use mathlib.Core.Path.{_≡_, refl, sym, ap, _∙_}
-use mathlib.Core.Logic.{_↔_}
 use mathlib.Core.Bool.{Bool, true, false}
 use mathlib.Core.List.{List, [], _∷_}
-use Prim.Native.Nat.{ℕ, _+_, _-_, _*_, _^_, _≤_, _<_, min, max}
-use native.Mathlib.Nat.{le-refl, le-trans, le-of-eq, mul-assoc, mul-comm, mul-le-mul, min-le-left, min-le-right}
+use Prim.Native.Nat.{ℕ, _+_, _-_, _*_, _^_, _≤_, _<_, min}
+use native.Mathlib.Nat.{le-trans, le-of-eq, mul-assoc, mul-comm, mul-le-mul, min-le-left, min-le-right}
 use native.Mathlib.Decide.{decLe}
 use native.Mathlib.Omega.{arith}
 use lib.Count.{ones}
-use lib.Pow.{pow-add, pow-mono}
+use lib.Pow.{pow-add}
 use Rattle.laws.specs.Tests.{equal, _and_, refuted, never, equal-iff, and-iff, and-go, and-stop, and-last-stop, is-equal, not-equal}
-use Rattle.laws.specs.Sums.{sum, oneIf, times, sum-same, sum-none, sum-only, sum-times}
+use Rattle.laws.specs.Sums.{oneIf, sum-same, sum-none, sum-only, sum-times}
 use Rattle.laws.specs.Subsets.{manyBelow, below-none, below-all}
-use Rattle.laws.specs.Binomials.{binomial, with-ones, two-choices}
-use Rattle.laws.specs.Distances.{distance, distance-zero}
+use Rattle.laws.specs.Binomials.{binomial, with-ones}
 use Rattle.protocol.specs.declared.Parameters.{Parameters}
 use Rattle.protocol.specs.Layout.{lists}
-use Rattle.protocol.specs.Record.{parametersOf, voteOf}
-use Rattle.protocol.specs.Throws.{Strategy, isThrow, throws, allThrows, choices, mostFalse, oneIn, acceptsFalse, Passed, Family, Fits, FewFalse}
+use Rattle.protocol.specs.Throws.{isThrow, throws, allThrows, choices, mostFalse, oneIn}
 use Rattle.protocol.proofs.Passing.{thrown-iff}
 
 module _ (p : Parameters) where

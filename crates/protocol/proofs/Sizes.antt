@@ -70,7 +70,7 @@ plain p =
 abbrev pub allOnes : List ℕ
 allOnes = replicate 30 49
 
-all-fair : fairDice allOnes ≡ true
+pub all-fair : fairDice allOnes ≡ true
 unfolding fairDice fairDie every atMost _and_
 all-fair = refl
 
@@ -143,7 +143,7 @@ module _ (p : Parameters) where
   plainSample mask b = written (plain p) allOnes mask allOnes (replicate (p .ballots) b)
 
   module _ (h : inLimits p ≡ true) (numbered : electionNumber (p .form) < 4294967296) where
-    modulus-low : 2 ≤ p .modulus
+    pub modulus-low : 2 ≤ p .modulus
     unfolding inLimits modulusInLimits ballotsInLimits listsInLimits
     modulus-low = (simp rules at h) .0 .0
 
@@ -223,7 +223,7 @@ module _ (p : Parameters) where
         low : i % 256 ≡ j % 256
         low = sym (from 1 i s (omega arith) (omega arith) ls ∙ key-low i s ls) ∙ ap (λ (o : List ℕ). item o 1) e ∙ from 1 j t (omega arith) lj lt ∙ key-low j t lt
 
-    original-or : (allOriginal (plain p) ≡ true) ⊎ Collision p
+    pub original-or : (allOriginal (plain p) ≡ true) ⊎ Collision p
     unfolding postedBoard inputsOf
     original-or = go (allOriginal (plain p)) refl
       where
