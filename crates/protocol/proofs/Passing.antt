@@ -101,7 +101,7 @@ module _ (board : List ℕ) (answer : Strategy) (f : Family board answer) where
     stands =
         subst (λ (x : Parameters). StandsOver (commitment x) (answer mask sides)) its-parameters (accepts-stands answer mask sides .0 (h .accepted))
 
-  -- over the board of any list with the same bytes before the first dice
+  -- what it says is valid, over the board of any list with the same bytes before the first dice
   pub valid : (q : List ℕ) → take (atFirstDice p) board ≡ take (atFirstDice p) q
       → (mask sides : ℕ) → Passed board answer mask sides
       → ValidOver (commitment p) (boardAt p q) (comparisonAt p (answer mask sides)) (disclosureAt p (answer mask sides))
@@ -116,6 +116,7 @@ module _ (board : List ℕ) (answer : Strategy) (f : Family board answer) where
       Alike (boardAt p board) (comparisonAt p (answer mask₁ sides₁)) (disclosureAt p (answer mask₁ sides₁))
       (disclosureAt p (answer mask₂ sides₂)) l
 
+  -- .. where both pass, and the one's mask compares what the other's opens
   abbrev Agreed : ℕ → ℕ → ℕ → ℕ → ℕ → Type 0
   Agreed mask₁ sides₁ mask₂ sides₂ l =
       Passed board answer mask₁ sides₁ → Passed board answer mask₂ sides₂ → bit mask₁ l ≡ 1 → bit mask₂ l ≡ 0 → SameEntries mask₁ sides₁ mask₂ sides₂ l
@@ -191,6 +192,7 @@ module _ (board : List ℕ) (answer : Strategy) (f : Family board answer) where
   -- ---- under another mask than one that many sides pass
 
   module _ (u : Unambiguous) (votes : ℕ → ℕ) (fits : Fits board answer votes) where
+    -- one mask, one comparison
     second-alike : (mask one other : ℕ) → Passed board answer mask one → Passed board answer mask other
         → take (atSecondDice p) (answer mask one) ≡ take (atSecondDice p) (answer mask other)
     second-alike mask one other h₁ h₂ =

@@ -1,7 +1,7 @@
 -- The claim of `specs/Throws`: over one board two accepted answers show a commitment opened in two ways, or few throws pass with a result that
 -- differs from what the ballots commit.
 use mathlib.Core.Path.{_≡_, refl, ap, _∙_}
-use mathlib.Core.Logic.{_↔_, _⊎_, inl}
+use mathlib.Core.Logic.{_↔_, _⊎_, inl, ⊎-map}
 use mathlib.Core.Bool.{false}
 use mathlib.Core.List.{List, []}
 use Prim.Native.Nat.{ℕ, _*_, _^_, _≤_, _<_}
@@ -19,6 +19,7 @@ use Rattle.protocol.specs.Answers.{answerOf}
 use Rattle.protocol.specs.Rules.{faultWith}
 use Rattle.protocol.specs.Judging.{foundWith, firstFault, judged}
 use Rattle.protocol.specs.Throws.{Strategy, throws, allThrows, choices, oneIn, accepts, acceptsFalse, isDone, Passed, Family, Fits, AnswersTwice, FewFalse}
+use Rattle.protocol.proofs.Places.{HashCollision, twice-collides}
 use Rattle.protocol.proofs.Passing.{valid, unambiguous, few-false}
 use Rattle.protocol.proofs.Fittable.{some-fit}
 use Rattle.protocol.proofs.Shares.{share, twelve}
@@ -28,6 +29,10 @@ few-or-twice board answer f = do
   u ← unambiguous board answer f
   t ← some-fit board answer f
   inl record { committed = t .0; fits = t .1; few = few-false board answer f u }
+
+-- the first case shows two inputs of SHA3-256 with one digest
+pub few-or-collides : (board : List ℕ) (answer : Strategy) → Family board answer → FewFalse board answer ⊎ HashCollision
+few-or-collides board answer f = ⊎-map (λ few. few) (λ t. twice-collides (t .opened)) (few-or-twice board answer f)
 
 -- ---- the claim as shares
 
