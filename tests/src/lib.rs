@@ -15,6 +15,7 @@ pub mod lent;
 pub mod random;
 pub mod reference;
 pub mod subjects;
+pub mod throws;
 #[cfg(feature = "linked")]
 pub mod wrapper;
 

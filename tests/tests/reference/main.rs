@@ -23,5 +23,7 @@ mod samples;
 mod stored;
 #[path = "../suites/tablet.rs"]
 mod tablet;
+#[path = "../suites/throws/mod.rs"]
+mod throws;
 
 use paddockyear_tests::subjects::reference as subject;
