@@ -76,6 +76,8 @@ pub struct Accepted {
     pub throw: Throw,
     pub record: Vec<u8>,
     pub votes: Vec<u32>,
+    /// The mask that the record has.
+    mask: u32,
     /// Of each ballot the side that the record shows, and the sum of its three numbers.
     halves: Vec<(u8, u32)>,
 }
@@ -91,7 +93,8 @@ impl Accepted {
             (record[place + 3], sum(parameters.modulus, &numbers))
         };
         let halves = (0..parameters.ballots()).map(half).collect();
-        Accepted { throw, record, votes, halves }
+        let mask = number(layout.first_dice() + 31);
+        Accepted { throw, votes, mask, halves, record }
     }
 }
 
@@ -137,12 +140,12 @@ impl Answers {
         let posted = &self.accepted.first()?.record[..layout.first_dice()];
         let mut links = BTreeMap::new();
         self.accepted.iter().find_map(|accepted| {
-            let Accepted { throw, record, halves, .. } = &**accepted;
-            let (mask, before) = (throw.mask, &record[..layout.second_dice()]);
-            let due = *links.entry(mask).or_insert(before);
+            let Accepted { throw, record, mask, halves, .. } = &**accepted;
+            let before = &record[..layout.second_dice()];
+            let due = *links.entry(throw.mask).or_insert(before);
             let kept = [
                 (Condition::Posted, record.starts_with(posted)),
-                (Condition::Mask, record[layout.first_dice() + 31..][..4] == mask.to_be_bytes()),
+                (Condition::Mask, *mask == throw.mask),
                 (Condition::Sides, halves.iter().map(|half| half.0).eq(throw.sides.clone())),
                 (Condition::Links, before == due),
             ];
@@ -183,28 +186,31 @@ impl Answers {
 
     /// Every opening of a record, by where its commitment stands.
     fn openings<'a>(&self, accepted: &'a Accepted) -> Vec<(usize, &'a [u8])> {
-        let (layout, record) = (Layout::new(&self.parameters), &accepted.record);
-        let (n, m) = (self.parameters.ballots(), self.parameters.m);
-        let at = |place: usize, rank: usize| &record[place + 4 + 36 * rank..][..36];
-        let mut openings = Vec::new();
-        for (j, &(side, _)) in accepted.halves.iter().enumerate() {
+        let Accepted { record, mask, halves, .. } = accepted;
+        let layout = Layout::new(&self.parameters);
+        let lists = |compared| lists_of(self.parameters.m, *mask, compared).into_iter().enumerate();
+        let mut commands = Vec::new();
+        for (j, &(side, _)) in halves.iter().enumerate() {
             let slots = [0, 2, 4].map(|slot| slot + usize::from(side));
-            for (row, slot) in slots.into_iter().enumerate() {
-                openings.push((layout.ballot_commitment(j, slot), at(layout.ballot_half(j), row)));
-                for (rank, list) in lists_of(m, accepted.throw.mask, true).into_iter().enumerate() {
-                    let place = layout.list_half(j, rank);
-                    let position =
-                        usize::from(record[place + 2]) << 8 | usize::from(record[place + 3]);
-                    openings.push((layout.entry_commitment(list, position, slot), at(place, row)));
-                }
+            let ballot = slots.map(|slot| layout.ballot_commitment(j, slot));
+            commands.push((layout.ballot_half(j), ballot.to_vec()));
+            for (rank, list) in lists(true) {
+                let place = layout.list_half(j, rank);
+                let position = u16::from_be_bytes([record[place + 2], record[place + 3]]).into();
+                let entry = slots.map(|slot| layout.entry_commitment(list, position, slot));
+                commands.push((place, entry.to_vec()));
             }
         }
-        for (rank, list) in lists_of(m, accepted.throw.mask, false).into_iter().enumerate() {
-            for (position, slot) in (0..n).flat_map(|i| (0..6).map(move |slot| (i, slot))) {
-                let place = layout.full_opening(rank, position);
-                openings.push((layout.entry_commitment(list, position, slot), at(place, slot)));
-            }
+        for (rank, list) in lists(false) {
+            commands.extend((0..halves.len()).map(|position| {
+                let entry = (0..6).map(|slot| layout.entry_commitment(list, position, slot));
+                (layout.full_opening(rank, position), entry.collect())
+            }));
         }
-        openings
+        let openings = |(place, commitments): (usize, Vec<usize>)| {
+            let of_command = record[place + 4..].chunks(36);
+            commitments.into_iter().zip(of_command).collect::<Vec<_>>()
+        };
+        commands.into_iter().flat_map(openings).collect()
     }
 }

@@ -147,33 +147,26 @@ pub struct Strategy {
 }
 
 impl Strategy {
+    /// Half of them play their guesses under every mask.
     pub fn any(random: &mut Random, parameters: Parameters) -> Self {
-        let (n, m) = (parameters.ballots(), parameters.m);
         let votes = low_votes(random, &parameters);
         let inputs = inputs_of(random, parameters, &votes);
         let mut poster = Poster::honest(random, &inputs);
         let wrong = wrong_votes(random, &votes, parameters.modulus);
-        let guessed = random.mask(m);
-        let style = random.below(3);
-        for list in 0..parameters.lists() {
-            let often = match style {
-                0 => 4,
-                1 => 4 * u64::from(guessed >> list & 1 == 0),
-                _ => random.below(5),
-            };
-            let falsified = wrong.iter().enumerate().filter(|_| random.below(4) < often);
-            for (j, &vote) in falsified.collect::<Vec<_>>() {
-                poster.falsify(random, list, j, vote);
-            }
-        }
-        let mut plan = |mask| (mask, any_plan(random, &poster, mask));
-        let plans = masks(m).into_iter().map(&mut plan).collect();
-        Strategy { plans, withheld: withheld(random, throws(m, n)), poster }
+        falsify_some(random, &mut poster, &wrong);
+        let guessing = random.below(2) == 0;
+        let mut plan = |mask| match guessing {
+            true => (mask, poster.plan(mask, &poster.guesses)),
+            false => (mask, any_plan(random, &poster, mask)),
+        };
+        let plans = masks(parameters.m).into_iter().map(&mut plan).collect();
+        let withheld = withheld(random, throws(parameters.m, parameters.ballots()));
+        Strategy { poster, plans, withheld }
     }
 
     pub fn answers(&self) -> impl Fn(&Throw) -> Option<Vec<u8>> + '_ {
-        let planned = |throw: &Throw| !self.withheld.contains(throw);
-        self.poster.answering(move |throw| planned(throw).then(|| self.plans[&throw.mask].clone()))
+        let answered = |throw: &Throw| !self.withheld.contains(throw);
+        self.poster.answering(move |throw| answered(throw).then(|| self.plans[&throw.mask].clone()))
     }
 }
 
@@ -187,6 +180,23 @@ fn wrong_votes(random: &mut Random, votes: &[u32], modulus: u32) -> Vec<u32> {
     changed.collect()
 }
 
+/// Puts these votes into all lists, into those that one mask opens, or here and there.
+fn falsify_some(random: &mut Random, poster: &mut Poster, votes: &[u32]) {
+    let (style, mask) = (random.below(3), random.mask(poster.parameters().m));
+    for list in 0..poster.parameters().lists() {
+        let often = match style {
+            0 => 4,
+            1 => 4 * u64::from(mask >> list & 1 == 0),
+            _ => random.below(5),
+        };
+        for (j, &vote) in votes.iter().enumerate() {
+            if random.below(4) < often {
+                poster.falsify(random, list, j, vote);
+            }
+        }
+    }
+}
+
 /// His guesses or others, true places or others, now and then any t, and the votes of the first
 /// opened list or the committed ones.
 fn any_plan(random: &mut Random, poster: &Poster, mask: u32) -> Plan {
@@ -198,12 +208,13 @@ fn any_plan(random: &mut Random, poster: &Poster, mask: u32) -> Plan {
     let mut places = poster.secrets.places.clone();
     if random.below(4) == 0 {
         let moved = random.permutation(n as usize).into_iter().map(usize::from).collect();
-        places[random.index(2 * poster.parameters().m as usize)] = moved;
+        places[random.index(poster.parameters().lists())] = moved;
     }
     let mut plan = poster.plan_with_places(mask, &sides, places);
-    let shifts = plan.shifts.iter_mut().flatten();
-    for t in shifts {
-        *t = if random.below(16) == 0 { random.number(modulus) } else { *t };
+    for t in plan.shifts.iter_mut().flatten() {
+        if random.below(16) == 0 {
+            *t = random.number(modulus);
+        }
     }
     if random.below(8) == 0 {
         plan.votes = sorted(&poster.committed());
@@ -211,8 +222,7 @@ fn any_plan(random: &mut Random, poster: &Poster, mask: u32) -> Plan {
     plan
 }
 
-/// Throws without an answer: those that would show the other side of some ballots, and some of the
-/// rest.
+/// Throws without an answer: those that show one side of some ballots, and some of the rest.
 fn withheld(random: &mut Random, throws: Vec<Throw>) -> BTreeSet<Throw> {
     let often = random.pick(&[0, 0, 1, 4]);
     let hides = |_| random.pick(&[None, None, None, Some(0), Some(1)]);

@@ -16,7 +16,7 @@ fn guessed_lists() {
         let (n, m) = (parameters.ballots(), parameters.m);
         for wrong in 1..=n {
             let mut poster = cheat(random, parameters);
-            let ballots = random.permutation(n);
+            let ballots = any_order(random, n);
             let mask = random.mask(m);
             falsify(random, &mut poster, &ballots[..wrong], mask);
             let answers = Answers::of(parameters, poster.guessing(), judged);
@@ -38,22 +38,8 @@ fn guessed_sides() {
     for parameters in elections(4, 3) {
         let (n, m) = (parameters.ballots(), parameters.m);
         for wrong in 1..=n {
-            let mut poster = cheat(random, parameters);
-            let ballots = random.permutation(n);
-            falsify(random, &mut poster, &ballots[..wrong], 0);
-            let answers = Answers::of(parameters, poster.guessing(), judged);
-            let passed = choices(m) << (n - wrong);
-            let counts = differing(&answers, &poster.committed());
-            assert_eq!(counts, steps(n, passed, &[(wrong, passed)]));
-            let guessed = |throw: &Throw| {
-                ballots[..wrong]
-                    .iter()
-                    .map(|&j| usize::from(j))
-                    .all(|j| throw.sides[j] == poster.guesses[j])
-            };
-            let due = throws(m, n).into_iter().filter(guessed);
-            assert!(answers.accepted.iter().map(|accepted| accepted.throw.clone()).eq(due));
-            if counts[wrong] == bound(m, n, wrong) {
+            let ballots = any_order(random, n)[..wrong].to_vec();
+            if guess_sides(random, parameters, &ballots) == bound(m, n, wrong) {
                 assert!(choices(m) >= 1 << wrong);
                 reached.insert((m, wrong));
             }
@@ -61,6 +47,27 @@ fn guessed_sides() {
     }
     let due = [(1, 1), (2, 1), (2, 2), (3, 1), (3, 2), (3, 3), (3, 4)];
     assert_eq!(reached, BTreeSet::from(due));
+}
+
+/// How many throws pass that show these ballots on the sides guessed. Their other sides are never
+/// seen, so that any vote fits there, and nowhere else.
+fn guess_sides(random: &mut Random, parameters: Parameters, ballots: &[usize]) -> u64 {
+    let (n, m) = (parameters.ballots(), parameters.m);
+    let mut poster = cheat(random, parameters);
+    falsify(random, &mut poster, ballots, 0);
+    let answers = Answers::of(parameters, poster.guessing(), judged);
+    let passed = choices(m) << (n - ballots.len());
+    let counts = differing(&answers, &poster.committed());
+    assert_eq!(counts, steps(n, passed, &[(ballots.len(), passed)]));
+    let guessed = |throw: &Throw| ballots.iter().all(|&j| throw.sides[j] == poster.guesses[j]);
+    let due = throws(m, n).into_iter().filter(guessed);
+    assert!(answers.accepted.iter().map(|accepted| accepted.throw.clone()).eq(due));
+    for j in 0..n {
+        let mut other = poster.committed();
+        other[j] = high_vote(random, parameters.modulus);
+        assert_eq!(answers.fits(&other), ballots.contains(&j));
+    }
+    passed
 }
 
 /// Some places are false in all lists, some more in those that one mask opens.
@@ -71,7 +78,7 @@ fn guessed_sides_and_lists() {
         let (n, m) = (parameters.ballots(), parameters.m);
         for (everywhere, more) in (1..n).flat_map(|a| (1..=n - a).map(move |b| (a, b))) {
             let mut poster = cheat(random, parameters);
-            let ballots = random.permutation(n);
+            let ballots = any_order(random, n);
             let (mask, (first, rest)) = (random.mask(m), ballots.split_at(everywhere));
             falsify(random, &mut poster, first, 0);
             falsify(random, &mut poster, &rest[..more], mask);

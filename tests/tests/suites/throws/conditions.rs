@@ -10,7 +10,7 @@ use paddockyear_tests::reference::writer::Secrets;
 /// Somebody of whose lists these are false in every place: all but those of the mask.
 fn false_but(random: &mut Random, parameters: Parameters, mask: u32) -> Poster {
     let mut poster = cheat(random, parameters);
-    let ballots = random.permutation(parameters.ballots());
+    let ballots = any_order(random, parameters.ballots());
     falsify(random, &mut poster, &ballots, mask);
     poster
 }
@@ -63,7 +63,7 @@ fn lists_that_know_the_mask() {
     let random = &mut Random::new(812);
     for parameters in elections(3, 2) {
         let honest = cheat(random, parameters);
-        let ballots = random.permutation(parameters.ballots());
+        let ballots = any_order(random, parameters.ballots());
         let mut falsified = |mask| {
             let mut poster = honest.clone();
             falsify(random, &mut poster, &ballots, mask);
@@ -120,7 +120,7 @@ fn places_opened_in_two_ways() {
     for parameters in elections(3, 2) {
         let honest = cheat(random, parameters);
         let mut other = honest.clone();
-        let ballots = random.permutation(parameters.ballots());
+        let ballots = any_order(random, parameters.ballots());
         falsify(random, &mut other, &ballots, 0);
         let posted = honest.secrets.part_one();
         let answer = |throw: &Throw| {
@@ -154,8 +154,8 @@ fn votes_that_do_not_fit() {
         let poster = cheat(random, parameters);
         let answers = Answers::of(parameters, poster.guessing(), judged);
         let mut votes = poster.committed();
-        for (changed, j) in (1..).zip(random.permutation(n)) {
-            votes[usize::from(j)] = high_vote(random, parameters.modulus);
+        for (changed, j) in (1..).zip(any_order(random, n)) {
+            votes[j] = high_vote(random, parameters.modulus);
             assert!(!answers.fits(&votes));
             let counts: Vec<u64> = (0..=n).map(|k| answers.differing(k, &votes)).collect();
             assert_eq!(counts, steps(n, choices(m) << n, &[(changed, choices(m) << n)]));

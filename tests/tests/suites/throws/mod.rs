@@ -98,14 +98,18 @@ fn cheat(random: &mut Random, parameters: Parameters) -> Poster {
     Poster::honest(random, &inputs)
 }
 
+fn any_order(random: &mut Random, n: usize) -> Vec<usize> {
+    random.permutation(n).into_iter().map(usize::from).collect()
+}
+
 /// High votes for these ballots in all lists that the mask has not.
-fn falsify(random: &mut Random, poster: &mut Poster, ballots: &[u16], mask: u32) {
+fn falsify(random: &mut Random, poster: &mut Poster, ballots: &[usize], mask: u32) {
     let Parameters { modulus, .. } = poster.parameters();
     for &ballot in ballots {
         let vote = high_vote(random, modulus);
         for list in 0..poster.parameters().lists() {
             if mask >> list & 1 == 0 {
-                poster.falsify(random, list, usize::from(ballot), vote);
+                poster.falsify(random, list, ballot, vote);
             }
         }
     }

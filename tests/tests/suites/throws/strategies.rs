@@ -21,26 +21,29 @@ fn fitting(random: &mut Random, poster: &Poster, answers: &Answers) -> Vec<Vec<u
     all
 }
 
-/// Whatever is tried, the bound is not passed; at times it is reached.
+/// Whatever is tried, the bound is not passed. For nearly all shapes and k some false results pass,
+/// also with all votes shown, and at times as many as the bound.
 #[test]
 fn any_strategy() {
     let random = &mut Random::new(804);
-    let (mut reached, mut some, mut hidden) = (0, 0, 0);
-    for round in 0..600 {
-        let (n, m) = (1 + round % 3, 1 + round / 3 % 2);
+    let (mut passed, mut reached) = (BTreeSet::new(), BTreeSet::new());
+    for round in 0..1200 {
+        let (n, m) = (1 + round % 4, 1 + round / 4 % 3);
         let (modulus, form) = (random.pick(&[2, 2, 3, 4, 100, u32::MAX]), random.pick(&FORMS));
         let parameters = Parameters { form, modulus, n, m };
         let strategy = Strategy::any(random, parameters);
         let answers = Answers::of(parameters, strategy.answers(), judged);
-        hidden += u32::from(answers.committed().contains(&None));
+        let hidden = answers.committed().contains(&None);
         for c in fitting(random, &strategy.poster, &answers) {
             let counts = differing(&answers, &c);
-            let most = |k: usize| counts[k] == bound(m, n as usize, k);
-            reached += u32::from((1..=n as usize).any(most));
-            some += u32::from(counts[1] > 0);
+            let some = (1..=n as usize).filter(|&k| counts[k] > 0);
+            passed.extend(some.clone().map(|k| (m, n, k, hidden)));
+            let most = some.filter(|&k| counts[k] == bound(m, n as usize, k));
+            reached.extend(most.map(|k| (m, n, k)));
         }
     }
-    assert!(reached > 100 && some > 1000 && hidden > 200, "{reached}, {some}, {hidden}");
+    // Of 30 shapes with a k, and twice as many with votes hidden or not.
+    assert!(passed.len() >= 55 && reached.len() >= 25, "{passed:?}, {reached:?}");
 }
 
 /// All lists of this length with numbers below the base.
