@@ -19,7 +19,7 @@ fn guessed_lists() {
             let ballots = any_order(random, n);
             let mask = random.mask(m);
             falsify(random, &mut poster, &ballots[..wrong], mask);
-            let answers = Answers::of(parameters, poster.guessing(), judged);
+            let answers = family(parameters, poster.guessing());
             let counts = differing(&answers, &poster.committed());
             assert_eq!(counts, steps(n, (1 << n) + (1 << (n - wrong)), &[(wrong, 1 << n)]));
             let most = (1..=wrong).filter(|&k| counts[k] == bound(m, n, k));
@@ -55,7 +55,7 @@ fn guess_sides(random: &mut Random, parameters: Parameters, ballots: &[usize]) -
     let (n, m) = (parameters.ballots(), parameters.m);
     let mut poster = cheat(random, parameters);
     falsify(random, &mut poster, ballots, 0);
-    let answers = Answers::of(parameters, poster.guessing(), judged);
+    let answers = family(parameters, poster.guessing());
     let passed = choices(m) << (n - ballots.len());
     let counts = differing(&answers, &poster.committed());
     assert_eq!(counts, steps(n, passed, &[(ballots.len(), passed)]));
@@ -82,7 +82,7 @@ fn guessed_sides_and_lists() {
             let (mask, (first, rest)) = (random.mask(m), ballots.split_at(everywhere));
             falsify(random, &mut poster, first, 0);
             falsify(random, &mut poster, &rest[..more], mask);
-            let answers = Answers::of(parameters, poster.guessing(), judged);
+            let answers = family(parameters, poster.guessing());
             let (one, other) = (1 << (n - everywhere), 1 << (n - everywhere - more));
             let due = [(everywhere, one + other), (everywhere + more, one)];
             let counts = differing(&answers, &poster.committed());

@@ -152,7 +152,7 @@ fn votes_that_do_not_fit() {
     for parameters in elections(3, 2) {
         let (n, m) = (parameters.ballots(), parameters.m);
         let poster = cheat(random, parameters);
-        let answers = Answers::of(parameters, poster.guessing(), judged);
+        let answers = family(parameters, poster.guessing());
         let mut votes = poster.committed();
         for (changed, j) in (1..).zip(any_order(random, n)) {
             votes[j] = high_vote(random, parameters.modulus);
@@ -199,7 +199,7 @@ fn refused_answers() {
             record.truncate(record.len() - usize::from(throw.sides[0]));
             Some(record)
         };
-        let answers = Answers::of(parameters, cut, judged);
+        let answers = family(parameters, cut);
         let passed = choices(parameters.m) << (parameters.n - 1);
         assert_eq!(answers.committed()[0], None);
         let counts = differing(&answers, &poster.committed());

@@ -35,13 +35,20 @@ fn elections(n: u32, m: u32) -> Vec<Parameters> {
         .collect()
 }
 
-/// The throws that differ from c in at least k places, for each k from 0 to n: of a family and
-/// votes that fit, never more than the bound.
+/// The accepted answers of what keeps the conditions of a family.
+#[track_caller]
+fn family(parameters: Parameters, answer: impl Fn(&Throw) -> Option<Vec<u8>>) -> Answers {
+    let answers = Answers::of(parameters, answer, judged);
+    assert_eq!(answers.broken(), None);
+    assert!(!answers.opened_twice());
+    answers
+}
+
+/// The throws of a family that differ from c in at least k places, for each k from 0 to n: if c
+/// fits, never more than the bound.
 #[track_caller]
 fn differing(answers: &Answers, c: &[u32]) -> Vec<u64> {
     let Parameters { n, m, .. } = answers.parameters;
-    assert_eq!(answers.broken(), None);
-    assert!(!answers.opened_twice());
     assert!(answers.fits(c));
     let counts: Vec<u64> = (0..=n as usize).map(|k| answers.differing(k, c)).collect();
     for (k, &count) in counts.iter().enumerate() {
@@ -84,7 +91,7 @@ fn honest_servers() {
             assert_eq!(told(throw), Some(record.clone()));
             Some(record)
         };
-        let answers = Answers::of(parameters, answer, judged);
+        let answers = family(parameters, answer);
         assert_eq!(answers.accepted.len() as u64, choices(m) << n);
         assert_eq!(answers.committed(), votes.iter().copied().map(Some).collect::<Vec<_>>());
         assert_eq!(differing(&answers, &votes), steps(n, choices(m) << n, &[]));
