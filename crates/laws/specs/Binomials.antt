@@ -26,7 +26,7 @@ unfolding binomial
 of-none zero = refl
 of-none (suc n) = refl
 
--- some choice of k out of n, and two of m + 1 out of 2 (m + 1)
+-- there is a choice of k out of n, and there are two of m out of 2m
 some-choice : (n k : ℕ) → k ≤ n → 1 ≤ binomial n k
 unfolding binomial
 some-choice zero zero l = omega arith

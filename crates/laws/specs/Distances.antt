@@ -1,6 +1,6 @@
 -- Two lists of n votes: how many votes they have in common, whichever order they stand in, and in how many places they differ.
 use mathlib.Core.Path.{_≡_, refl, sym, ap, ap₂, _∙_}
-use mathlib.Core.Logic.{_↔_, _≢_}
+use mathlib.Core.Logic.{_↔_}
 use Prim.Native.Nat.{ℕ, zero, suc, _+_, _-_, _≤_, _<_, min}
 use native.Mathlib.Nat.{le-refl}
 use native.Mathlib.Decide.{ℕ-discrete, decLt}
@@ -8,7 +8,7 @@ use native.Mathlib.Omega.{arith}
 use lib.Dec.{eqb}
 use borrow.Author.Tests.{eq-eqb, ne-eqb}
 use Rattle.laws.specs.Tests.{differ, is-differ, not-differ}
-use Rattle.laws.specs.Sums.{sum, oneIf, times, sum-same, sum-change, sum-add, sum-none, sum-most, sum-one, sum-only}
+use Rattle.laws.specs.Sums.{sum, oneIf, times, times-hit, times-miss, times-none, sum-same, sum-change, sum-add, sum-none, sum-most, sum-one, sum-only}
 use Rattle.laws.specs.Subsets.{manyBelow}
 
 -- for each vote x below M the smaller of its two counts
@@ -35,13 +35,6 @@ distance-swap M f g n =
     ap (λ (c : ℕ). n - c)
     (sum-same (λ x. min (times x f n) (times x g n)) (λ x. min (times x g n) (times x f n)) M (λ x l. omega arith))
 
--- one vote more is counted once
-one-more : (f : ℕ → ℕ) (n : ℕ) → times (f n) f (suc n) ≡ suc (times (f n) f n)
-one-more f n = omega (arith, ap oneIf (eq-eqb (f n) (f n) refl))
-
-no-more : (x : ℕ) (f : ℕ → ℕ) (n : ℕ) → x ≢ f n → times x f (suc n) ≡ times x f n
-no-more x f n ne = omega (arith, ap oneIf (ne-eqb x (f n) ne))
-
 more : (x : ℕ) (f : ℕ → ℕ) (n : ℕ) → times x f n ≤ times x f (suc n)
 more x f n = omega arith
 
@@ -62,12 +55,12 @@ covered M f g (suc n) h = go (ℕ-discrete (f n) (g n)) (covered M f g n (λ j l
     go (yes e) ih = omega (
       arith,
       ap oneIf (not-differ e),
-      sum-change now was M (f n) (h n (le-refl (suc n))) (λ x l ne. ap₂ min (no-more x f n ne) (no-more x g n (λ q. ne (q ∙ sym e)))),
-      ap₂ min (one-more f n) (ap (λ (x : ℕ). times x g (suc n)) e ∙ one-more g n ∙ ap (λ (x : ℕ). suc (times x g n)) (sym e)),
+      sum-change now was M (f n) (h n (le-refl (suc n))) (λ x l ne. ap₂ min (times-miss x f n ne) (times-miss x g n (λ q. ne (q ∙ sym e)))),
+      ap₂ min (times-hit (f n) f n refl) (times-hit (f n) g n e),
     )
     go (no ne) ih = omega (arith, ap oneIf (is-differ ne), sum-most was now M (λ x l. omega (arith, more x f n, more x g n)))
 
--- lists with as many votes in common as all but k places: the distance is at most k
+-- the distance is at most the number of places in which the lists, as they stand, differ
 pub distance-most : (M : ℕ) (f g : ℕ → ℕ) (n : ℕ) → ((j : ℕ) → j < n → f j < M) → distance M f g n ≤ manyBelow (λ j. differ (f j) (g j)) n
 unfolding distance
 distance-most M f g n h = omega (arith, covered M f g n h)
@@ -98,9 +91,6 @@ distance-surplus M f g n h =
 
 -- ---- no distance: each vote as often
 
-above : (M x : ℕ) (f : ℕ → ℕ) (n : ℕ) → ((j : ℕ) → j < n → f j < M) → M ≤ x → times x f n ≡ 0
-above M x f n h l = sum-none (λ j. oneIf (eqb x (f j))) n (λ j k. ap oneIf (ne-eqb x (f j) (λ e. omega (arith, h j k))))
-
 pub distance-zero : (M : ℕ) (f g : ℕ → ℕ) (n : ℕ) → ((j : ℕ) → j < n → f j < M) → ((j : ℕ) → j < n → g j < M)
     → (distance M f g n ≡ 0) ↔ ((x : ℕ) → times x f n ≡ times x g n)
 distance-zero M f g n hf hg = (λ e x. go x e (decLt x M), λ same. distance-surplus M f g n hf ∙ sum-none (λ x. times x f n - times x g n) M (λ x l. omega (arith, same x)))
@@ -115,4 +105,7 @@ distance-zero M f g n hf hg = (λ e x. go x e (decLt x M), λ same. distance-sur
       sum-one (λ x. times x f n - times x g n) M x l,
       sum-one (λ x. times x g n - times x f n) M x l,
     )
-    go x e (no l) = above M x f n hf (omega arith) ∙ sym (above M x g n hg (omega arith))
+    go x e (no l) = absent f hf ∙ sym (absent g hg)
+      where
+        absent : (f : ℕ → ℕ) → ((j : ℕ) → j < n → f j < M) → times x f n ≡ 0
+        absent f h = times-none x f n (λ j k e. omega (arith, h j k))

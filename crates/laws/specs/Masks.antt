@@ -25,11 +25,11 @@ clearBefore mask l = sum (λ i. 1 - bit mask i) l
 
 -- ---- laws
 
-pub bit-zero : (a : ℕ) → bit a 0 ≡ a % 2
+bit-zero : (a : ℕ) → bit a 0 ≡ a % 2
 bit-zero a = ap (λ (x : ℕ). x % 2) (div-one a)
 
 -- bit i + 1 of a mask is bit i of its half
-pub bit-suc : (a i : ℕ) → bit a (suc i) ≡ bit (a / 2) i
+bit-suc : (a i : ℕ) → bit a (suc i) ≡ bit (a / 2) i
 bit-suc a i = ap (λ (x : ℕ). x % 2) (ap (λ (x : ℕ). a / 2 ^ x) (sym (one-add i)) ∙ sym (shr-shr a 1 i))
 
 -- a bit below k that is set in a and not in b

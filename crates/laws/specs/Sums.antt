@@ -7,6 +7,7 @@ use native.Mathlib.Nat.{not-suc-le-zero, le-refl, add-suc}
 use native.Mathlib.Decide.{ℕ-discrete}
 use native.Mathlib.Omega.{arith}
 use lib.Dec.{eqb}
+use borrow.Author.Tests.{eq-eqb, ne-eqb}
 
 -- f 0 + .. + f (n - 1)
 abbrev pub sum : (ℕ → ℕ) → ℕ → ℕ
@@ -43,6 +44,17 @@ sum-change f g (suc n) i l h = go (ℕ-discrete i n) (λ k. sum-change f g n i k
 pub sum-first : (f : ℕ → ℕ) (n : ℕ) → sum f (suc n) ≡ f 0 + sum (λ j. f (suc j)) n
 sum-first f zero = omega arith
 sum-first f (suc n) = omega (arith, sum-first f n)
+
+-- one number more is counted where it is the one sought
+pub times-miss : (x : ℕ) (f : ℕ → ℕ) (n : ℕ) → x ≢ f n → times x f (suc n) ≡ times x f n
+times-miss x f n ne = omega (arith, ap oneIf (ne-eqb x (f n) ne))
+
+pub times-hit : (x : ℕ) (f : ℕ → ℕ) (n : ℕ) → x ≡ f n → times x f (suc n) ≡ times x f n + 1
+times-hit x f n e = ap (λ (b : Bool). times x f n + oneIf b) (eq-eqb x (f n) e)
+
+pub times-none : (x : ℕ) (f : ℕ → ℕ) (n : ℕ) → ((j : ℕ) → j < n → x ≢ f j) → times x f n ≡ 0
+times-none x f zero h = refl
+times-none x f (suc n) h = times-miss x f n (h n (omega arith)) ∙ times-none x f n (λ j l. h j (omega arith))
 
 -- a sum of sums
 pub sum-add : (f g : ℕ → ℕ) (n : ℕ) → sum (λ i. f i + g i) n ≡ sum f n + sum g n

@@ -51,7 +51,7 @@ module _ {commit : Scheme} (b : Board) (k k₃ : Comparison) (d₃ : Disclosure)
   linked : ℕ → ℕ
   linked j = value b d₃ l (k .position l j)
 
-  -- the votes announced are those of the linked entries, in some order; d is a disclosure of the comparison
+  -- the votes announced are those of the linked entries, in some order; s is one that passed, whose disclosure says that the positions are a permutation
   pub few-differ : (s : ℕ) → passed s ≡ true
       → distance (b .parameters .modulus) (d₃ .vote) votes (b .parameters .ballots) ≤ manyBelow (constant passed (b .parameters .ballots)) (b .parameters .ballots)
   unfolding linked

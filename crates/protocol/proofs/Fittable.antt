@@ -125,7 +125,7 @@ module _ (board : List ℕ) (answer : Strategy) (f : Family board answer) where
 
   -- ---- a throw that passes and shows side v of ballot j
 
-  pub record ShownOn (j v : ℕ) : Type 0 where
+  record ShownOn (j v : ℕ) : Type 0 where
     pub mask : ℕ
     pub sides : ℕ
     pub passed : Passed board answer mask sides

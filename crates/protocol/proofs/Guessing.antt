@@ -32,7 +32,7 @@ use Rattle.protocol.proofs.Posting.{posting, Keeps, board-parameters, p
 use Rattle.protocol.proofs.Served.{Fair, compares, discloses, thrown-chosen, honest-keeps, as-cast}
 
 -- a family that passes so many throws with votes at a distance of at least k
-pub record Passes (p : Parameters) (board : List ℕ) (answer : Strategy) (votes : ℕ → ℕ) (k count : ℕ) : Type 0 where
+pub record PassesFalsely (p : Parameters) (board : List ℕ) (answer : Strategy) (votes : ℕ → ℕ) (k count : ℕ) : Type 0 where
   pub parameters : parametersOf board ≡ p
   pub family : Family board answer
   pub fits : Fits board answer votes
@@ -72,7 +72,7 @@ module _ (s : Slices) (g : Good (inputsOf s)) (original : Original (postedBoard 
 
   pub sides-guessed : (k : ℕ) → k ≤ n → (votes : ℕ → ℕ) → ((j : ℕ) → j < n - k → votes j ≡ item (s .votes) j)
       → k ≤ distance (s .parameters .modulus) (item (s .votes)) votes n
-      → Passes (s .parameters) (partOne (postedBoard (inputsOf s))) (posting (postedBoard (inputsOf s)) (compares s dice₁ dice₂) (discloses s dice₁ dice₂) (onSide k))
+      → PassesFalsely (s .parameters) (partOne (postedBoard (inputsOf s))) (posting (postedBoard (inputsOf s)) (compares s dice₁ dice₂) (discloses s dice₁ dice₂) (onSide k))
       votes k (choices (s .parameters) * 2 ^ (n - k))
   unfolding inputsOf postedBoard postedDisclosure
   sides-guessed k lk votes early far = record {
@@ -198,7 +198,7 @@ module _ (s : Slices) (g : Good (inputsOf s)) (original : Original (postedBoard 
     }
 
     pub mask-guessed : (k : ℕ) → k ≤ distance (s .parameters .modulus) (item cast) (item (s .votes)) n
-        → Passes (s .parameters) (partOne forged) (posting forged (compares s dice₁ dice₂) announces onMask) (item (s .votes)) k (2 ^ n)
+        → PassesFalsely (s .parameters) (partOne forged) (posting forged (compares s dice₁ dice₂) announces onMask) (item (s .votes)) k (2 ^ n)
     unfolding forged announces inputsOf postedBoard postedDisclosure
     mask-guessed k far = record {
       parameters = board-parameters _ _ _ _ keeps;

@@ -76,10 +76,10 @@ module _ (board : List ℕ) (answer : Strategy) where
   passesFalse : (ℕ → ℕ) → ℕ → ℕ → ℕ → Bool
   passesFalse votes k mask sides = isThrow (parametersOf board) mask sides and acceptsFalse (parametersOf board) answer votes k mask sides
 
-  false-iff : (votes : ℕ → ℕ) (k mask sides : ℕ) → passesFalse votes k mask sides ≡ true
+  false-passes : (votes : ℕ → ℕ) (k mask sides : ℕ) → passesFalse votes k mask sides ≡ true
       → (passes mask sides ≡ true) × (k ≤ distance (parametersOf board .modulus) (voteOf (parametersOf board) (answer mask sides)) votes (parametersOf board .ballots))
   unfolding passesFalse acceptsFalse
-  false-iff votes k mask sides e =
+  false-passes votes k mask sides e =
       let (thrown, (accepted, far)) = simp rules at e in
       (passes-iff mask sides .1 record { thrown = thrown; accepted = accepted }, far)
 
@@ -267,7 +267,7 @@ module _ (board : List ℕ) (answer : Strategy) (f : Family board answer) where
 
       false-under : (mask : ℕ) → falseUnder mask ≤ manyBelow (passes board answer mask) (2 ^ p .ballots)
       unfolding falseUnder
-      false-under mask = below-within (passesFalse board answer votes k mask) (passes board answer mask) (2 ^ p .ballots) (λ sides l e. false-iff board answer votes k mask sides e .0)
+      false-under mask = below-within (passesFalse board answer votes k mask) (passes board answer mask) (2 ^ p .ballots) (λ sides l e. false-passes board answer votes k mask sides e .0)
 
       -- few sides pass under each mask
       few-each : ((mask : ℕ) → mask < 2 ^ lists p → manyBelow (passes board answer mask) (2 ^ p .ballots) ≤ 2 ^ (p .ballots - k))
@@ -287,7 +287,7 @@ module _ (board : List ℕ) (answer : Strategy) (f : Family board answer) where
           at : (mask : ℕ) → mask < 2 ^ lists p → (b : Bool) → equal (ones mask) m ≡ b → falseUnder mask ≤ oneIf b * most
           at mask l true e = omega (arith, false-under mask, few mask l)
           at mask l false e = omega (arith, below-none (passesFalse board answer votes k mask) (2 ^ p .ballots) (λ sides ls. refuted (passesFalse board answer votes k mask sides) (λ h.
-              let ((o, low), some) = thrown-iff p mask sides .0 (passes-iff board answer mask sides .0 (false-iff board answer votes k mask sides h .0) .thrown) in
+              let ((o, low), some) = thrown-iff p mask sides .0 (passes-iff board answer mask sides .0 (false-passes board answer votes k mask sides h .0) .thrown) in
               never (equal-iff (ones mask) m .1 o) e)))
 
       -- many pass under one
@@ -300,7 +300,7 @@ module _ (board : List ℕ) (answer : Strategy) (f : Family board answer) where
         where
           none : (mask : ℕ) → mask₀ ≢ mask → (sides : ℕ) → passesFalse board answer votes k mask sides ≡ true → ⊥
           none mask ne sides e =
-              let (h, far) = false-iff board answer votes k mask sides e in
+              let (h, far) = false-passes board answer votes k mask sides e in
               let near = elsewhere mask₀ k lk many mask sides (passes-iff board answer mask sides .0 h) ne in
               omega (arith, far, near)
 

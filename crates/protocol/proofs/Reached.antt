@@ -1,6 +1,6 @@
 -- The bound is reached, for every k up to n, in every election in which all voted alike: by the better of two guesses.
 use mathlib.Core.Path.{_≡_, sym, ap, _∙_}
-use mathlib.Core.Logic.{_≢_, _⊎_, ⊎-map}
+use mathlib.Core.Logic.{_≢_, _⊎_, inl, inr, ⊎-map}
 use mathlib.Core.Bool.{Bool, true}
 use mathlib.Core.List.{List}
 use Prim.Native.Nat.{ℕ, _+_, _-_, _*_, _^_, _≤_, _<_}
@@ -21,14 +21,16 @@ use Rattle.protocol.specs.Inputs.{Slices, inputsOf, ballotNumbers, listN
 use Rattle.protocol.specs.Refusals.{allOriginal}
 use Rattle.protocol.specs.Servers.{postedBoard}
 use Rattle.protocol.specs.Stands.{Original}
-use Rattle.protocol.specs.Throws.{Strategy, choices, mostFalse, Reached}
+use Rattle.protocol.specs.Record.{parametersOf}
+use Rattle.protocol.specs.Throws.{Strategy, throws, choices, mostFalse, acceptsFalse, Family, Fits, AnswersTwice, Reached}
 use Rattle.protocol.proofs.Goodness.{Good}
 use Rattle.protocol.proofs.Meetable.{lowMask, low-shaped, good, original}
 use Rattle.protocol.proofs.Sizes.{Collision, plain, allOnes, modulus-low, fits, part-one, original-or, one-original}
+use Rattle.protocol.proofs.Passing.{its-parameters}
 use Rattle.protocol.proofs.Served.{ones-fair}
-use Rattle.protocol.proofs.Guessing.{Passes, others, sides-guessed, mask-guessed}
+use Rattle.protocol.proofs.Guessing.{PassesFalsely, others, sides-guessed, mask-guessed}
 
--- how often a number is in a list of n that has it at its first c places, and another one behind
+-- how often a number is in a list of c + r that has it at its first c places, and another one behind
 often : (a b c r : ℕ) (f : ℕ → ℕ) → a ≢ b → ((j : ℕ) → j < c → f j ≡ a) → ((j : ℕ) → c ≤ j → j < c + r → f j ≡ b) → times a f (c + r) ≡ c
 often a b c r f ne early late =
     sum-same (λ j. oneIf (eqb a (f j))) (λ j. oneIf (below j c)) (c + r) (λ j l. ap oneIf (at j l (decLt j c))) ∙ below-first c r
@@ -118,7 +120,7 @@ module _ (s : Slices) (g : Good (inputsOf s)) (original : Original (postedBoard 
   unfolding mostFalse
   reached k lk = go (decLe (choices (s .parameters) * 2 ^ (n - k)) (2 ^ n))
     where
-      from : {board : List ℕ} {answer : Strategy} {votes : ℕ → ℕ} {count : ℕ} → Passes (s .parameters) board answer votes k count → count ≡ mostFalse (s .parameters) k → Reached (s .parameters) k
+      from : {board : List ℕ} {answer : Strategy} {votes : ℕ → ℕ} {count : ℕ} → PassesFalsely (s .parameters) board answer votes k count → count ≡ mostFalse (s .parameters) k → Reached (s .parameters) k
       from {board} {answer} {votes} t e =
           record { board = board; answer = answer; votes = votes; parameters = t .parameters; family = t .family; fits = t .fits; reached = t .counted ∙ e }
 
@@ -146,3 +148,29 @@ module _ (p : Parameters) (h : inLimits p ≡ true) (numbered : electionNumber (
   -- of one ballot, without proviso: C throws of 2 C
   pub reached-one : p .ballots ≡ 1 → Reached p 1
   reached-one e = plain-reached (one-original p h numbered e) 1 (le-of-eq (sym e))
+
+  -- so a smaller bound does not hold, even if families that open a commitment in two ways are let off
+  pub no-smaller : (k less : ℕ) → k ≤ p .ballots → less < mostFalse p k
+      → ((board : List ℕ) (answer : Strategy) → parametersOf board ≡ p → Family board answer
+      → ((votes : ℕ → ℕ) → Fits board answer votes → throws p (acceptsFalse p answer votes k) ≤ less) ⊎ AnswersTwice board answer)
+      → Collision p
+  no-smaller k less lk small claim = elim (reached-or k lk) [ inl t ↦ go t (claim (t .board) (t .answer) (t .parameters) (t .family)) | inr c ↦ c ]
+    where
+      twice : (t : Reached p k) → AnswersTwice (t .board) (t .answer) → Collision p
+      twice t o =
+          let e : parametersOf (t .answer (o .mask₁) (o .sides₁)) ≡ p =
+              its-parameters (t .board) (t .answer) (t .family) (o .mask₁) (o .sides₁) (o .passed₁) ∙ t .parameters in
+          record {
+            place₁ = o .opened .place;
+            place₂ = o .opened .place;
+            opening₁ = o .opened .one;
+            opening₂ = o .opened .other;
+            differ = o .opened .differ;
+            same = rw e at (o .opened .one-gives ∙ sym (o .opened .other-gives));
+          }
+
+      go : (t : Reached p k)
+          → ((votes : ℕ → ℕ) → Fits (t .board) (t .answer) votes → throws p (acceptsFalse p (t .answer) votes k) ≤ less) ⊎ AnswersTwice (t .board) (t .answer)
+          → Collision p
+      go t (inl few) = absurd (omega (arith, small, few (t .votes) (t .fits), t .reached))
+      go t (inr o) = twice t o

@@ -1,5 +1,5 @@
--- Beyond the demands: how many throws of the dice a false result can pass. Demand 3 speaks of three records, this of what would be
--- answered to every throw. The claim, `few-or-twice` in `proofs/Throws`:
+-- Beyond the demands: how many throws a false result can pass. Demand 3 speaks of three records, this of what would be answered to every
+-- throw, which is what the two throws of the dice are to decide. The claim, `few-or-twice` in `proofs/Throws`:
 --   Fix the bytes before command 04. To each throw, a choice of m lists out of 2m and of n sides, whoever posts answers with a record or
 --   not at all. What he answers has that mask, those sides and those bytes, and for one mask the same bytes before command 06. Then
 --   two accepted answers show a posted commitment opened in two ways; or, whatever votes fit what accepted answers show of the ballots, at

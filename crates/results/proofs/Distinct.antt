@@ -7,24 +7,13 @@ use Prim.Native.Nat.{ℕ, zero, suc, _+_, _-_, _≤_, _<_}
 use native.Mathlib.Decide.{ℕ-discrete}
 use native.Mathlib.Omega.{arith}
 use lib.ListN.{length, length-append, length-map}
-use borrow.Author.Tests.{eq-eqb, ne-eqb}
 use Rattle.laws.specs.Tests.{equal, differ, _or_, pick, never, or-go, or-stop, differ-iff, differ-fails, is-equal, not-equal, is-differ, not-differ}
-use Rattle.laws.specs.Sums.{times, oneIf}
+use Rattle.laws.specs.Sums.{times, times-miss, times-hit, times-none}
 use Rattle.laws.specs.Chunks.{chunks}
 use Rattle.protocol.specs.Terms.{item}
 use Rattle.protocol.specs.Results.{fresh}
 
 -- ---- how often a number stands
-
-times-miss : (x : ℕ) (f : ℕ → ℕ) (n : ℕ) → x ≢ f n → times x f (suc n) ≡ times x f n
-times-miss x f n ne = rw (ne-eqb x (f n) ne) (omega arith)
-
-times-hit : (x : ℕ) (f : ℕ → ℕ) (n : ℕ) → x ≡ f n → times x f (suc n) ≡ times x f n + 1
-times-hit x f n e = ap (λ (b : Bool). times x f n + oneIf b) (eq-eqb x (f n) e)
-
-times-none : (x : ℕ) (f : ℕ → ℕ) (n : ℕ) → ((j : ℕ) → j < n → x ≢ f j) → times x f n ≡ 0
-times-none x f zero h = refl
-times-none x f (suc n) h = times-miss x f n (h n (omega arith)) ∙ times-none x f n (λ j l. h j (omega arith))
 
 pub times-most : (x : ℕ) (f : ℕ → ℕ) (n : ℕ) → times x f n ≤ n
 times-most x f zero = omega arith

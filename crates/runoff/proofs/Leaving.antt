@@ -3,13 +3,13 @@ use mathlib.Core.Path.{_≡_, refl, sym, ap, _∙_}
 use mathlib.Core.Logic.{_≢_, _⊎_, inl, inr}
 use mathlib.Core.Bool.{Bool, true, false}
 use mathlib.Core.List.{List, [], _∷_}
-use Prim.Native.Nat.{ℕ, zero, suc, _+_, _-_, _*_, _≤_, _<_}
+use Prim.Native.Nat.{ℕ, suc, _+_, _-_, _*_, _≤_, _<_}
 use native.Mathlib.Decide.{ℕ-discrete}
 use native.Mathlib.Omega.{arith}
 use lib.ListN.{length, set}
 use lib.Seq.{getD-set-same, getD-set-other}
 use Rattle.laws.specs.Tests.{pick, equal, differ, never, is-equal, not-equal, is-differ, not-differ, unequal-iff, differ-fails, and-iff, atMost-iff, or-fails}
-use Rattle.laws.specs.Sums.{oneIf, sum, sum-change}
+use Rattle.laws.specs.Sums.{oneIf, sum, sum-change, sum-one}
 use Rattle.laws.specs.Counting.{howMany, many-none, many-within, many-both}
 use Rattle.runoff.specs.Ranking.{ranking, ranks, valid, standing, firstStanding, countsFor}
 use Rattle.runoff.specs.Rounds.{fewestAmong, winnerAmong, support, counting, roundWinner, decided, leftAfter}
@@ -54,15 +54,12 @@ module _ (candidates : ℕ) (left : List ℕ) (f r : ℕ) (from : 1 ≤ f) (stan
 unfoldable pub standingOf : List ℕ → ℕ → ℕ
 standingOf left n = sum (λ i. oneIf (standing left (suc i))) n
 
-one-of : (f : ℕ → ℕ) (n i : ℕ) → i < n → f i ≡ 1 → 1 ≤ sum f n
-one-of f zero i l e = absurd (omega arith)
-one-of f (suc n) i l e = elim (ℕ-discrete i n) [ yes s ↦ omega (arith, ap f s) | no ne ↦ omega (arith, one-of f n i (omega arith) e) ]
-
 pub some-standing : (left : List ℕ) (n k : ℕ) → 1 ≤ k → k ≤ n → standing left k ≡ true → 1 ≤ standingOf left n
 unfolding standingOf
 some-standing left n k low high s =
     let e : suc (k - 1) ≡ k = omega arith in
-    one-of (λ i. oneIf (standing left (suc i))) n (k - 1) (omega arith) (ap (λ (j : ℕ). oneIf (standing left j)) e ∙ ap oneIf s)
+    let one : oneIf (standing left (suc (k - 1))) ≡ 1 = ap (λ (j : ℕ). oneIf (standing left j)) e ∙ ap oneIf s in
+    omega (arith, one, sum-one (λ i. oneIf (standing left (suc i))) n (k - 1) (omega arith))
 
 -- who leaves has left
 pub gone-now : (left : List ℕ) (f r : ℕ) → 1 ≤ f → f ≤ length left → 1 ≤ r → standing (set left (f - 1) r) f ≡ false
