@@ -68,9 +68,10 @@ module _ (board : List ℕ) (answer : Strategy) where
 
   pub passes-iff : (mask sides : ℕ) → (passes mask sides ≡ true) ↔ Passed board answer mask sides
   unfolding passes
-  passes-iff mask sides =
-      (λ e. let t = and-iff (isThrow (parametersOf board) mask sides) (accepts answer mask sides) .0 e in record { thrown = t .0; accepted = t .1 },
-      λ h. and-iff (isThrow (parametersOf board) mask sides) (accepts answer mask sides) .1 (h .thrown, h .accepted))
+  passes-iff mask sides = (
+    λ e. let t = and-iff (isThrow (parametersOf board) mask sides) (accepts answer mask sides) .0 e in record { thrown = t .0; accepted = t .1 },
+    λ h. and-iff (isThrow (parametersOf board) mask sides) (accepts answer mask sides) .1 (h .thrown, h .accepted),
+  )
 
   -- .. and whether it does with a result that differs from these votes in at least k places
   passesFalse : (ℕ → ℕ) → ℕ → ℕ → ℕ → Bool
@@ -286,9 +287,12 @@ module _ (board : List ℕ) (answer : Strategy) (f : Family board answer) where
 
           at : (mask : ℕ) → mask < 2 ^ lists p → (b : Bool) → equal (ones mask) m ≡ b → falseUnder mask ≤ oneIf b * most
           at mask l true e = omega (arith, false-under mask, few mask l)
-          at mask l false e = omega (arith, below-none (passesFalse board answer votes k mask) (2 ^ p .ballots) (λ sides ls. refuted (passesFalse board answer votes k mask sides) (λ h.
-              let ((o, low), some) = thrown-iff p mask sides .0 (passes-iff board answer mask sides .0 (false-passes board answer votes k mask sides h .0) .thrown) in
-              never (equal-iff (ones mask) m .1 o) e)))
+          at mask l false e = omega (
+            arith,
+            below-none (passesFalse board answer votes k mask) (2 ^ p .ballots) (λ sides ls. refuted (passesFalse board answer votes k mask sides) (λ h.
+                let ((o, low), some) = thrown-iff p mask sides .0 (passes-iff board answer mask sides .0 (false-passes board answer votes k mask sides h .0) .thrown) in
+                never (equal-iff (ones mask) m .1 o) e)),
+          )
 
       -- many pass under one
       none-elsewhere : (mask₀ : ℕ) → mask₀ < 2 ^ lists p → 2 ^ (p .ballots - k) < manyBelow (passes board answer mask₀) (2 ^ p .ballots)

@@ -110,9 +110,9 @@ module _ (s : Slices) (g : Good (inputsOf s)) (original : Original (postedBoard 
   others-far k lk =
       let z : n ≡ n + 0 = omega arith in
       let far : n ≤ distance M (item allOther) (item (s .votes)) n =
-          apart M b n n (item allOther) (item (s .votes)) (le-refl n) low (λ j lj. rw (other-item j lj) low)
-          (ap (times b (item allOther)) z ∙ often b a n 0 (item allOther) (λ e. ne (sym e)) other-item (λ j l m. absurd (omega arith)))
-          (ap (times b (item (s .votes))) (sym (zero-add n)) ∙ often b a 0 n (item (s .votes)) (λ e. ne (sym e)) (λ j l. absurd (omega arith)) (λ j l m. alike j (rw (zero-add n) at m)) ∙ omega arith) in
+      apart M b n n (item allOther) (item (s .votes)) (le-refl n) low (λ j lj. rw (other-item j lj) low)
+      (ap (times b (item allOther)) z ∙ often b a n 0 (item allOther) (λ e. ne (sym e)) other-item (λ j l m. absurd (omega arith)))
+      (ap (times b (item (s .votes))) (sym (zero-add n)) ∙ often b a 0 n (item (s .votes)) (λ e. ne (sym e)) (λ j l. absurd (omega arith)) (λ j l m. alike j (rw (zero-add n) at m)) ∙ omega arith) in
       omega (arith, far)
 
   -- so many throws pass falsely for every k, by the better of two guesses
@@ -159,7 +159,7 @@ module _ (p : Parameters) (h : inLimits p ≡ true) (numbered : electionNumber (
       twice : (t : Reached p k) → AnswersTwice (t .board) (t .answer) → Collision p
       twice t o =
           let e : parametersOf (t .answer (o .mask₁) (o .sides₁)) ≡ p =
-              its-parameters (t .board) (t .answer) (t .family) (o .mask₁) (o .sides₁) (o .passed₁) ∙ t .parameters in
+          its-parameters (t .board) (t .answer) (t .family) (o .mask₁) (o .sides₁) (o .passed₁) ∙ t .parameters in
           record {
             place₁ = o .opened .place;
             place₂ = o .opened .place;

@@ -37,8 +37,8 @@ module _ (p : Parameters) where
       sum-none (λ mask. manyBelow (λ sides. isThrow p mask sides and t mask sides) (2 ^ p .ballots)) (2 ^ lists p)
       (λ mask l. below-none (λ sides. isThrow p mask sides and t mask sides) (2 ^ p .ballots)
       (λ sides ls. refuted (isThrow p mask sides and t mask sides) (λ e.
-          let (thrown, met) = and-iff (isThrow p mask sides) (t mask sides) .0 e in
-          never met (h mask sides thrown))))
+      let (thrown, met) = and-iff (isThrow p mask sides) (t mask sides) .0 e in
+      never met (h mask sides thrown))))
 
   -- ---- how many there are
 
@@ -55,8 +55,8 @@ module _ (p : Parameters) where
       go false e =
           below-none (λ sides. isThrow p mask sides and t sides) (2 ^ p .ballots)
           (λ sides ls. refuted (isThrow p mask sides and t sides) (λ h.
-              let ((o, low), some) = thrown-iff p mask sides .0 (and-iff (isThrow p mask sides) (t sides) .0 h .0) in
-              never (is-equal o) e))
+          let ((o, low), some) = thrown-iff p mask sides .0 (and-iff (isThrow p mask sides) (t sides) .0 h .0) in
+          never (is-equal o) e))
           ∙ omega arith
 
   pub throws-sides : (t : ℕ → Bool) → throws p (λ mask sides. t sides) ≡ choices p * manyBelow t (2 ^ p .ballots)

@@ -56,8 +56,8 @@ module _ (board : List ℕ) (answer : Strategy) (few : FewFalse board answer) (v
           → acceptsFalse (parametersOf board) answer votes k mask sides ≡ false
       none l mask sides t =
           refuted (acceptsFalse (parametersOf board) answer votes k mask sides) (λ e.
-              let h : Passed board answer mask sides = record { thrown = t; accepted = and-iff _ _ .0 e .0 } in
-              omega (arith, valid board answer f board refl mask sides h .compared-low))
+          let h : Passed board answer mask sides = record { thrown = t; accepted = and-iff _ _ .0 e .0 } in
+          omega (arith, valid board answer f board refl mask sides h .compared-low))
 
       go : Dec (1 ≤ parametersOf board .compared) → falseThrows * 2 ≤ allThrows (parametersOf board)
       go (yes lm) =
