@@ -11,11 +11,11 @@ use Rattle.laws.specs.Tests.{differ, is-differ, not-differ}
 use Rattle.laws.specs.Sums.{sum, oneIf, times, times-hit, times-miss, times-none, sum-same, sum-change, sum-add, sum-none, sum-most, sum-one, sum-only}
 use Rattle.laws.specs.Subsets.{manyBelow}
 
--- for each vote x below M the smaller of its two counts
+-- "the sum over x of the smaller of the two counts of x"; votes are below M
 unfoldable pub common : ℕ → (ℕ → ℕ) → (ℕ → ℕ) → ℕ → ℕ
 common M f g n = sum (λ x. min (times x f n) (times x g n)) M
 
--- in how many places they differ as multisets
+-- "n less" that sum: in how many places they differ, as multisets
 unfoldable pub distance : ℕ → (ℕ → ℕ) → (ℕ → ℕ) → ℕ → ℕ
 distance M f g n = n - common M f g n
 
