@@ -206,21 +206,26 @@ module _ (a : List ℕ) (g : (i : ℕ) → at a i < 2 ^ 64) where
   unfolding flipped flipOf vals lanes keccakF
   end-is = ap (map (λ (x : Word). x .0)) (twice words laws (roundsOf 24 (wordsOf a g))) ∙ sym (rounds-are 23)
 
-one : (f : ℕ → Word) (n m : ℕ) → m ≡ suc n → codeRound (at roundConstants n) (vals (flipOf words (roundsOf n f))) ≡ vals (flipOf words (roundsOf m f))
+-- row 0 of a state, with its two lanes that are kept complemented complemented again
+pub first-flipped : (a : List ℕ) {e : List ℕ} → e ≡ rowAt a 0 → (at e 0 ∷ not64 (at e 1) ∷ not64 (at e 2) ∷ at e 3 ∷ at e 4 ∷ []) ≡ rowAt (flipped a) 0
+unfolding rowAt flipped flipOf lanes
+first-flipped a h = rw h
+
+pub one : (f : ℕ → Word) (n m : ℕ) → m ≡ suc n → codeRound (at roundConstants n) (vals (flipOf words (roundsOf n f))) ≡ vals (flipOf words (roundsOf m f))
 unfolding roundsOf constant
 one f n m e = step (constant n) (roundsOf n f) ∙ ap (λ (k : ℕ). vals (flipOf words (roundsOf k f))) (sym e)
 
--- four rounds of the code
-pub four : (f : ℕ → Word) (i : ℕ) →
-    codeRound (at roundConstants (i * 4 + 3))
-    (codeRound (at roundConstants (i * 4 + 2)) (codeRound (at roundConstants (i * 4 + 1)) (codeRound (at roundConstants (i * 4)) (vals (flipOf words (roundsOf (i * 4) f))))))
-    ≡ vals (flipOf words (roundsOf ((i + 1) * 4) f))
-four f i =
-    let c : ℕ → List ℕ → List ℕ = λ k l. codeRound (at roundConstants (i * 4 + k)) l in
-    ap (λ (l : List ℕ). c 3 (c 2 (c 1 l))) (one f (i * 4) (i * 4 + 1) (omega arith))
-    ∙ ap (λ (l : List ℕ). c 3 (c 2 l)) (one f (i * 4 + 1) (i * 4 + 2) (omega arith))
-    ∙ ap (λ (l : List ℕ). c 3 l) (one f (i * 4 + 2) (i * 4 + 3) (omega arith))
-    ∙ one f (i * 4 + 3) ((i + 1) * 4) (omega arith)
+-- three and four rounds of the code, from the state of any number of rounds
+pub three : (f : ℕ → Word) (n k l m : ℕ) → k ≡ suc n → l ≡ suc k → m ≡ suc l →
+    codeRound (at roundConstants l) (codeRound (at roundConstants k) (codeRound (at roundConstants n) (vals (flipOf words (roundsOf n f))))) ≡ vals (flipOf words (roundsOf m f))
+three f n k l m e e′ e″ =
+    let c : ℕ → List ℕ → List ℕ = λ j a. codeRound (at roundConstants j) a in
+    ap (λ (a : List ℕ). c l (c k a)) (one f n k e) ∙ ap (λ (a : List ℕ). c l a) (one f k l e′) ∙ one f l m e″
+
+pub four : (f : ℕ → Word) (n k l j m : ℕ) → k ≡ suc n → l ≡ suc k → j ≡ suc l → m ≡ suc j →
+    codeRound (at roundConstants j) (codeRound (at roundConstants l) (codeRound (at roundConstants k) (codeRound (at roundConstants n) (vals (flipOf words (roundsOf n f))))))
+    ≡ vals (flipOf words (roundsOf m f))
+four f n k l j m e e′ e″ e‴ = ap (λ (a : List ℕ). codeRound (at roundConstants j) a) (three f n k l j e e′ e″) ∙ one f j m e‴
 
 -- ---- a round, row by row
 
@@ -235,15 +240,24 @@ pub row-is : (p q r s t d : List ℕ) (j : ℕ) (f : ℕ → ℕ → ℕ → ℕ
 unfolding summed gathered gatherOf turnedOf
 row-is p q r s t d j f e e0 e1 e2 e3 e4 = rw (e0, e1, e2, e3, e4, e)
 
-pub by-rows : (c : ℕ) (p q r s t : List ℕ) {d p′ q′ r′ s′ t′ : List ℕ} → d ≡ sides p q r s t →
+-- the rows before a round and those behind it
+pub record Step (c : ℕ) (p q r s t p′ q′ r′ s′ t′ : List ℕ) : Type 0 where
+  pub is : flat p′ q′ r′ s′ t′ ≡ codeRound c (flat p q r s t)
+
+pub by-rows : (c : ℕ) {p q r s t d p′ q′ r′ s′ t′ : List ℕ} → d ≡ sides p q r s t →
     p′ ≡ gathered p q r s t d 0 (chi0Of numbers c) →
     q′ ≡ gathered p q r s t d 3 (chi1Of numbers) →
     r′ ≡ gathered p q r s t d 1 (chi2Of numbers) →
     s′ ≡ gathered p q r s t d 4 (chi3Of numbers) →
     t′ ≡ gathered p q r s t d 2 (chi4Of numbers) →
-    flat p′ q′ r′ s′ t′ ≡ codeRound c (flat p q r s t)
+    Step c p q r s t p′ q′ r′ s′ t′
 unfolding flat sides gathered codeRound roundOf gatherOf turnedOf chi0Of chi1Of chi2Of chi3Of chi4Of rotationOffsets
-by-rows c p q r s t e0 e1 e2 e3 e4 e5 = rw (e1, e2, e3, e4, e5, e0)
+by-rows c e0 e1 e2 e3 e4 e5 = record { is = rw (e1, e2, e3, e4, e5, e0) }
+
+-- of a round, row 0 alone
+pub first-of-rows : (c : ℕ) (p q r s t : List ℕ) {d p′ : List ℕ} → d ≡ sides p q r s t → p′ ≡ gathered p q r s t d 0 (chi0Of numbers c) → p′ ≡ rowAt (codeRound c (flat p q r s t)) 0
+unfolding flat sides gathered rowAt codeRound roundOf gatherOf turnedOf chi0Of chi1Of chi2Of chi3Of chi4Of rotationOffsets
+first-of-rows c p q r s t e0 e1 = rw (e1, e0)
 
 -- a state is its rows
 own-rows : (c : ℕ) (a : List ℕ) → codeRound c (flat (rowAt a 0) (rowAt a 5) (rowAt a 10) (rowAt a 15) (rowAt a 20)) ≡ codeRound c a
@@ -253,3 +267,15 @@ own-rows c a = refl
 pub as-rows : (c : ℕ) (a : List ℕ) {p q r s t : List ℕ} → p ≡ rowAt a 0 → q ≡ rowAt a 5 → r ≡ rowAt a 10 → s ≡ rowAt a 15 → t ≡ rowAt a 20 →
     codeRound c (flat p q r s t) ≡ codeRound c a
 as-rows c a e0 e1 e2 e3 e4 = rw (e0, e1, e2, e3, e4) (own-rows c a)
+
+-- the rows of a state
+pub record Made (a p q r s t : List ℕ) : Type 0 where
+  pub is : flat p q r s t ≡ a
+
+-- the first round, on the rows that are cut from a state, and one round more
+pub begun : {c : ℕ} (a : List ℕ) {p q r s t p′ q′ r′ s′ t′ : List ℕ} → p ≡ rowAt a 0 → q ≡ rowAt a 5 → r ≡ rowAt a 10 → s ≡ rowAt a 15 → t ≡ rowAt a 20 →
+    Step c p q r s t p′ q′ r′ s′ t′ → Made (codeRound c a) p′ q′ r′ s′ t′
+begun {c} a e0 e1 e2 e3 e4 h = record { is = h .is ∙ as-rows c a e0 e1 e2 e3 e4 }
+
+pub more : {c : ℕ} {a p q r s t p′ q′ r′ s′ t′ : List ℕ} → Made a p q r s t → Step c p q r s t p′ q′ r′ s′ t′ → Made (codeRound c a) p′ q′ r′ s′ t′
+more {c} e h = record { is = h .is ∙ ap (codeRound c) (e .is) }

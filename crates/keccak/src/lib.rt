@@ -364,3 +364,104 @@ pub fn permute_in_place(a: &mut [u64; 25])
     let b = permute(*a);
     *a = b;
 }
+
+// Three rounds, with the constants k0 to k2.
+fn first_rounds(a: [u64; 25], k0: u64, k1: u64, k2: u64) -> [u64; 25]
+    ensures { λ r. ⌜ r ≡ codeRound k2 (codeRound k1 (codeRound k0 a)) ⌝ }
+{
+    let v0 = cut(a, 0);
+    let w0 = cut(a, 5);
+    let x0 = cut(a, 10);
+    let y0 = cut(a, 15);
+    let z0 = cut(a, 20);
+    let d0 = mix(v0, w0, x0, y0, z0);
+    let w1 = row1(v0, w0, x0, y0, z0, d0);
+    let z1 = row4(v0, w0, x0, y0, z0, d0);
+    let y1 = row3(v0, w0, x0, y0, z0, d0);
+    let x1 = row2(v0, w0, x0, y0, z0, d0);
+    let v1 = row0(v0, w0, x0, y0, z0, d0, k0);
+    let d1 = mix(v1, w1, x1, y1, z1);
+    let w2 = row1(v1, w1, x1, y1, z1, d1);
+    let z2 = row4(v1, w1, x1, y1, z1, d1);
+    let y2 = row3(v1, w1, x1, y1, z1, d1);
+    let x2 = row2(v1, w1, x1, y1, z1, d1);
+    let v2 = row0(v1, w1, x1, y1, z1, d1, k1);
+    let d2 = mix(v2, w2, x2, y2, z2);
+    let w3 = row1(v2, w2, x2, y2, z2, d2);
+    let z3 = row4(v2, w2, x2, y2, z2, d2);
+    let y3 = row3(v2, w2, x2, y2, z2, d2);
+    let x3 = row2(v2, w2, x2, y2, z2, d2);
+    let v3 = row0(v2, w2, x2, y2, z2, d2, k2);
+    joined(v3, w3, x3, y3, z3)
+}
+
+// Four rounds, as `rounds` has them: a function that is called in one place becomes part of its caller, and one that is called in two would
+// not.
+fn inner_rounds(a: [u64; 25], k0: u64, k1: u64, k2: u64, k3: u64) -> [u64; 25]
+    ensures { λ r. ⌜ r ≡ codeRound k3 (codeRound k2 (codeRound k1 (codeRound k0 a))) ⌝ }
+{
+    let f0 = cut(a, 0);
+    let g0 = cut(a, 5);
+    let h0 = cut(a, 10);
+    let i0 = cut(a, 15);
+    let j0 = cut(a, 20);
+    let d0 = mix(f0, g0, h0, i0, j0);
+    let g1 = row1(f0, g0, h0, i0, j0, d0);
+    let j1 = row4(f0, g0, h0, i0, j0, d0);
+    let i1 = row3(f0, g0, h0, i0, j0, d0);
+    let h1 = row2(f0, g0, h0, i0, j0, d0);
+    let f1 = row0(f0, g0, h0, i0, j0, d0, k0);
+    let d1 = mix(f1, g1, h1, i1, j1);
+    let g2 = row1(f1, g1, h1, i1, j1, d1);
+    let j2 = row4(f1, g1, h1, i1, j1, d1);
+    let i2 = row3(f1, g1, h1, i1, j1, d1);
+    let h2 = row2(f1, g1, h1, i1, j1, d1);
+    let f2 = row0(f1, g1, h1, i1, j1, d1, k1);
+    let d2 = mix(f2, g2, h2, i2, j2);
+    let g3 = row1(f2, g2, h2, i2, j2, d2);
+    let j3 = row4(f2, g2, h2, i2, j2, d2);
+    let i3 = row3(f2, g2, h2, i2, j2, d2);
+    let h3 = row2(f2, g2, h2, i2, j2, d2);
+    let f3 = row0(f2, g2, h2, i2, j2, d2, k2);
+    let d3 = mix(f3, g3, h3, i3, j3);
+    let g4 = row1(f3, g3, h3, i3, j3, d3);
+    let j4 = row4(f3, g3, h3, i3, j3, d3);
+    let i4 = row3(f3, g3, h3, i3, j3, d3);
+    let h4 = row2(f3, g3, h3, i3, j3, d3);
+    let f4 = row0(f3, g3, h3, i3, j3, d3, k3);
+    joined(f4, g4, h4, i4, j4)
+}
+
+// Row 0 of one round, with the constant c.
+fn last_row(a: [u64; 25], c: u64) -> [u64; 5]
+    ensures { λ r. ⌜ r ≡ rowAt (codeRound c a) 0 ⌝ }
+{
+    let p = cut(a, 0);
+    let q = cut(a, 5);
+    let r = cut(a, 10);
+    let s = cut(a, 15);
+    let t = cut(a, 20);
+    let d = mix(p, q, r, s, t);
+    row0(p, q, r, s, t, d, c)
+}
+
+// Row 0 of Keccak-f[1600], where a digest of at most five lanes stands. The first three rounds and the last one are outside the loop: where
+// the caller makes the state of few lanes, the compiler leaves out the sums with those that are 0, and of the last round one row is made.
+pub fn first_row(a: [u64; 25]) -> [u64; 5]
+    ensures { λ r. ⌜ r ≡ rowAt (keccakF a) 0 ⌝ }
+{
+    let constants = ROUND_CONSTANTS;
+    let mut b = first_rounds(flip(a), constants[0], constants[1], constants[2]);
+    for i in 0..5 {
+        let t = inner_rounds(
+            b,
+            constants[i * 4 + 3],
+            constants[i * 4 + 4],
+            constants[i * 4 + 5],
+            constants[i * 4 + 6],
+        );
+        b = t;
+    }
+    let e = last_row(b, constants[23]);
+    [e[0], !e[1], !e[2], e[3], e[4]]
+}

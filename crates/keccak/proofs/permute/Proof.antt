@@ -28,8 +28,11 @@ unfolding roundConstants
 loop-again c =
     let a = c .before .before in
     let i = a .loop .i in
-    let k : ℕ → List ℕ → List ℕ = λ n l. codeRound (at roundConstants (i * 4 + n)) l in
-    (omega arith, λ f e. c .rounds .ensures ∙ ap (λ l. k 3 (k 2 (k 1 (codeRound (at roundConstants (i * 4)) l)))) (a .loop .inv .1 f e) ∙ four f i)
+    let k : ℕ → List ℕ → List ℕ = λ n l. codeRound (at roundConstants (i * 4 + n)) l in (
+      omega arith,
+      λ f e. c .rounds .ensures ∙ ap (λ l. k 3 (k 2 (k 1 (codeRound (at roundConstants (i * 4)) l)))) (a .loop .inv .1 f e)
+          ∙ four f (i * 4) (i * 4 + 1) (i * 4 + 2) (i * 4 + 3) ((i + 1) * 4) (omega arith) (omega arith) (omega arith) (omega arith),
+    )
 
 returns : tie.Need-returns Inv-loop μ-loop
 returns c =

@@ -1,8 +1,7 @@
 -- Each of the four rounds is the definition's, row by row.
-use mathlib.Core.Path.{ap, _∙_}
+use mathlib.Core.Path.{_∙_}
 use borrow.Author.Needs.{needs}
-use Rattle.keccak.specs.Rows.{codeRound}
-use Rattle.keccak.proofs.Numbers.{by-rows, as-rows}
+use Rattle.keccak.proofs.Numbers.{by-rows, begun, more}
 use Rattle.keccak.proofs.rounds.Statement.{statement}
 use Rattle.keccak.proofs.rounds.Tie as tie
 
@@ -14,18 +13,16 @@ returns c =
     let u = v .before .before .before .before .before .before in
     let z = u .before .before .before .before .before .before in
     let args = z .before .before .before .before .before .args in
-    let a = args .a in
-    c .joined .ensures
-    ∙ by-rows (args .k3) (w .row03 .result) (w .before .before .before .before .row13 .result) (w .before .row23 .result) (w .before .before .row33 .result) (w .before .before .before .row43 .result)
-    (x .before .before .before .before .before .mix4 .ensures) (x .row04 .ensures) (x .before .before .before .before .row14 .ensures) (x .before .row24 .ensures) (x .before .before .row34 .ensures) (x .before .before .before .row44 .ensures)
-    ∙ ap (λ l. codeRound (args .k3) l) (by-rows (args .k2) (v .row02 .result) (v .before .before .before .before .row12 .result) (v .before .row22 .result) (v .before .before .row32 .result) (v .before .before .before .row42 .result)
-    (w .before .before .before .before .before .mix3 .ensures) (w .row03 .ensures) (w .before .before .before .before .row13 .ensures) (w .before .row23 .ensures) (w .before .before .row33 .ensures) (w .before .before .before .row43 .ensures))
-    ∙ ap (λ l. codeRound (args .k3) (codeRound (args .k2) l)) (by-rows (args .k1) (u .row0 .result) (u .before .before .before .before .row1 .result) (u .before .row2 .result) (u .before .before .row3 .result) (u .before .before .before .row4 .result)
-    (v .before .before .before .before .before .mix2 .ensures) (v .row02 .ensures) (v .before .before .before .before .row12 .ensures) (v .before .row22 .ensures) (v .before .before .row32 .ensures) (v .before .before .before .row42 .ensures))
-    ∙ ap (λ l. codeRound (args .k3) (codeRound (args .k2) (codeRound (args .k1) l)))
-    (by-rows (args .k0) (z .before .before .before .before .cut .result) (z .before .before .before .cut2 .result) (z .before .before .cut3 .result) (z .before .cut4 .result) (z .cut5 .result)
-    (u .before .before .before .before .before .mix .ensures) (u .row0 .ensures) (u .before .before .before .before .row1 .ensures) (u .before .row2 .ensures) (u .before .before .row3 .ensures) (u .before .before .before .row4 .ensures)
-    ∙ as-rows (args .k0) a (z .before .before .before .before .cut .ensures) (z .before .before .before .cut2 .ensures) (z .before .before .cut3 .ensures) (z .before .cut4 .ensures) (z .cut5 .ensures))
+    let first =
+    begun (args .a) (z .before .before .before .before .cut .ensures) (z .before .before .before .cut2 .ensures) (z .before .before .cut3 .ensures) (z .before .cut4 .ensures) (z .cut5 .ensures)
+    (by-rows (args .k0) (u .before .before .before .before .before .mix .ensures) (u .row0 .ensures) (u .before .before .before .before .row1 .ensures) (u .before .row2 .ensures) (u .before .before .row3 .ensures) (u .before .before .before .row4 .ensures)) in
+    let second =
+    more first (by-rows (args .k1) (v .before .before .before .before .before .mix2 .ensures) (v .row02 .ensures) (v .before .before .before .before .row12 .ensures) (v .before .row22 .ensures) (v .before .before .row32 .ensures) (v .before .before .before .row42 .ensures)) in
+    let third =
+    more second (by-rows (args .k2) (w .before .before .before .before .before .mix3 .ensures) (w .row03 .ensures) (w .before .before .before .before .row13 .ensures) (w .before .row23 .ensures) (w .before .before .row33 .ensures) (w .before .before .before .row43 .ensures)) in
+    let fourth =
+    more third (by-rows (args .k3) (x .before .before .before .before .before .mix4 .ensures) (x .row04 .ensures) (x .before .before .before .before .row14 .ensures) (x .before .row24 .ensures) (x .before .before .row34 .ensures) (x .before .before .before .row44 .ensures)) in
+    c .joined .ensures ∙ fourth .is
 
 pub rounds-spec : {M : Type 1} → statement M
 rounds-spec =
