@@ -1,41 +1,34 @@
--- What is hashed in each form, as the code has it: a key, and behind it the rest.
-use mathlib.Core.Path.{_≡_, sym, ap, _∙_}
+-- What is hashed in each form, as the code has it: a key, and behind it the rest, of which two lanes are made.
+use mathlib.Core.Path.{_≡_, refl, sym, ap, ap₂, _∙_}
 use mathlib.Core.List.{List, [], _∷_, _++_, append-assoc}
-use Prim.Native.Nat.{ℕ, _+_, _/_, _%_}
+use Prim.Native.Nat.{ℕ, zero, suc, _+_, _-_, _/_, _%_, _≤_}
 use native.Mathlib.Omega.{arith}
-use lib.ListN.{length, take, drop, replicate, length-append}
-use lib.Seq.{take-at, drop-at}
+use lib.ListN.{length, drop, replicate, length-append}
 use Rattle.laws.specs.Bytes.{bytes, length-bytes}
 use Rattle.laws.specs.Writing.{put, Wrote}
-use Rattle.sha3.specs.Sha3.{sha3-256}
-use Rattle.sha3.specs.Word.{Short}
+use Rattle.sha3.specs.Sha3.{squeeze, sha3-256}
+use Rattle.sha3.specs.Word.{wordAt, keyedRow, ended}
+use Rattle.sha3.proofs.Keyed.{keyed-digest}
+use Rattle.protocol.specs.declared.Form.{Form}
 use Rattle.protocol.specs.declared.Form.the-variants.{Unnumbered, Numbered}
 use Rattle.protocol.specs.declared.Parameters.{Parameters}
 use Rattle.protocol.specs.declared.Place.{Place}
 use Rattle.protocol.specs.declared.Place.the-variants.{InEntry}
 use Rattle.protocol.specs.Terms.{opening, placeBytes, hashedBytes, commitment}
 use Rattle.protocol.proofs.Places.{length-place}
+use Rattle.commitment.specs.Behind.{behindKey}
 
-pub unnumbered-is : (p : Parameters) (place : Place) (o : List ℕ) → p .form ≡ Unnumbered → commitment p place o ≡ sha3-256 o
-unfolding commitment hashedBytes
-unnumbered-is p place o form = rw form
-
-pub numbered-is : (p : Parameters) (place : Place) (o : List ℕ) {o' : List ℕ} {election : ℕ} → p .form ≡ Numbered election → o' ≡ o
-    → sha3-256 (hashedBytes (Numbered election) place o') ≡ commitment p place o
-unfolding commitment
-numbered-is p place o form e = rw (form, e)
-
--- an opening, and what is behind its key
-abbrev pub behindKey : ℕ → ℕ → Place → List ℕ
-behindKey x election place = (bytes 4 x ++ bytes 4 election) ++ placeBytes place
-
-pub behind-is : (key : List ℕ) (x election : ℕ) (place : Place) → key ++ behindKey x election place ≡ hashedBytes (Numbered election) place (opening key x)
-unfolding hashedBytes opening
-behind-is key x election place =
+-- the key and what is behind it
+behind-is : (form : Form) (place : Place) (key : List ℕ) (x : ℕ) → key ++ behindKey form place x ≡ hashedBytes form place (opening key x)
+unfolding behindKey hashedBytes opening
+behind-is Unnumbered place key x = refl
+behind-is (Numbered election) place key x =
     ap (λ (l : List ℕ). key ++ l) (append-assoc (bytes 4 x) (bytes 4 election) (placeBytes place)) ∙ sym (append-assoc key (bytes 4 x) (bytes 4 election ++ placeBytes place))
 
-behind-long : (x election : ℕ) (place : Place) → length (behindKey x election place) ≡ 14
-behind-long x election place =
+behind-long : (form : Form) (place : Place) (x : ℕ) → length (behindKey form place x) ≤ 15
+unfolding behindKey
+behind-long Unnumbered place x = omega (arith, length-bytes 4 x)
+behind-long (Numbered election) place x =
     omega (
       arith,
       length-append (bytes 4 x ++ bytes 4 election) (placeBytes place),
@@ -45,26 +38,35 @@ behind-long x election place =
       length-place place,
     )
 
--- written into 16 bytes of 0, it has two of them behind it
-module _ {out : List ℕ} (x election : ℕ) (place : Place) (w : Wrote (replicate 16 0) 0 (behindKey x election place) out) where
-  rest-is : out ≡ behindKey x election place ++ (0 ∷ 0 ∷ [])
-  unfolding put
-  rest-is = w .is ∙ ap (λ (k : ℕ). behindKey x election place ++ drop (0 + k) (replicate 16 0)) (behind-long x election place)
+-- the lanes that the sponge gives for it are the commitment's
+pub committed : (p : Parameters) (place : Place) (key : List ℕ) (x : ℕ) → length key ≡ 32 → {row : List ℕ} {low high : ℕ} →
+    row ≡ keyedRow key low high →
+    (low ≡ wordAt (ended (behindKey (p .form) place x)) 0) × (high ≡ wordAt (ended (behindKey (p .form) place x)) 8) →
+    squeeze row 32 ≡ commitment p place (opening key x)
+unfolding commitment
+committed p place key x k e t =
+    keyed-digest key (behindKey (p .form) place x) k (behind-long (p .form) place x) e (t .0) (t .1) ∙ ap sha3-256 (behind-is (p .form) place key x)
 
-  rest-long : length out ≡ 16
-  rest-long = w .long
+-- zeros that are left
+drop-zeros : (k n : ℕ) → drop {A = ℕ} k (replicate n 0) ≡ replicate (n - k) 0
+drop-zeros zero n =
+    let e : n ≡ n - 0 = omega arith in
+    ap (λ (i : ℕ). replicate i 0) e
+drop-zeros (suc k) zero =
+    let e : 0 ≡ 0 - suc k = omega arith in
+    ap (λ (i : ℕ). replicate i 0) e
+drop-zeros (suc k) (suc n) =
+    let e : n - k ≡ suc n - suc k = omega arith in
+    drop-zeros k n ∙ ap (λ (i : ℕ). replicate i 0) e
 
-  pub rest-taken : take 14 out ≡ behindKey x election place
-  rest-taken = ap (take 14) rest-is ∙ take-at (behindKey x election place) (0 ∷ 0 ∷ []) 14 (behind-long x election place)
-
-  pub rest-short : {k : ℕ} → k ≡ 32 → Short 136 k out 14
-  rest-short {k} e = record {
-    lanes = ap (λ (n : ℕ). n % 8) e;
-    long = rest-long;
-    counted = omega arith;
-    zeros = ap (drop 14) rest-is ∙ drop-at (behindKey x election place) (0 ∷ 0 ∷ []) 14 (behind-long x election place);
-    room = omega arith;
-  }
+-- written into 16 bytes of 0, with the byte 06 behind it, it is the end of a message
+pub tail-written : {out : List ℕ} (m : List ℕ) → Wrote (replicate 16 0) 0 (m ++ bytes 1 6) out → out ≡ ended m
+unfolding put ended bytes
+tail-written m w =
+    let n : 16 - (0 + length (m ++ bytes 1 6)) ≡ 15 - length m = omega (arith, length-append m (bytes 1 6), length-bytes 1 6) in
+    w .is
+    ∙ ap (λ (l : List ℕ). (m ++ bytes 1 6) ++ l) (drop-zeros (0 + length (m ++ bytes 1 6)) 16 ∙ ap (λ (k : ℕ). replicate k 0) n)
+    ∙ append-assoc m (bytes 1 6) (replicate (15 - length m) 0)
 
 -- the lowest bytes of a number are those of its remainder
 pub low-byte : (x : ℕ) → bytes 1 (x % 256) ≡ bytes 1 x

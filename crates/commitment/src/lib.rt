@@ -7,11 +7,11 @@ ghost use Rattle.laws.specs.Bytes.{bytes};
 ghost use Rattle.laws.specs.Chunks.{piece};
 ghost use Rattle.laws.specs.Lent.{before, after};
 ghost use Rattle.laws.specs.Writing.{Went};
-ghost use Rattle.sha3.specs.Sha3.{sha3-256};
-ghost use Rattle.protocol.specs.declared.Form.the-variants.{Numbered};
-ghost use Rattle.protocol.specs.Terms.{opening, placeBytes, hashedBytes, commitment};
+ghost use Rattle.sha3.specs.Word.{wordAt, ended};
+ghost use Rattle.protocol.specs.Terms.{opening, placeBytes, commitment};
 ghost use Rattle.protocol.specs.Rules as rules;
 ghost use Rattle.commitment.specs.Slots.{inSlot};
+ghost use Rattle.commitment.specs.Behind.{behindKey};
 use protocol::Form;
 use protocol::Parameters;
 use protocol::Place;
@@ -47,34 +47,47 @@ fn put_place(out: &mut [u8], at: usize, place: Place) -> usize
     }
 }
 
-// The SHA3-256 of an opening, the election's number and a place, 46 bytes. The two bytes behind them are 0, so that the sponge takes whole
-// lanes.
-fn hash_placed(key: &[u8], x: u32, election: u32, place: Place, out: &mut [u8])
-    requires { ⌜ (length (now key) ≡ 32) × (length (now out) ≡ 32) ⌝ }
-    ensures { λ _. ⌜ after out ≡ sha3-256 (hashedBytes (Numbered election) place (opening (before key) x)) ⌝ }
+// What is hashed behind the key, with the end of a message, as the two lanes of the sponge that it fills.
+struct Tail {
+    low: u64,
+    high: u64,
+}
+
+// .. of a number alone, with 01.
+fn plain_tail(x: u32) -> Tail
+    ensures { λ r. let b = ended (bytes 4 x) in ⌜ (r .low ≡ wordAt b 0) × (r .high ≡ wordAt b 8) ⌝ }
+{
+    let mut rest = [0u8; 16];
+    let a = wire::put4(&mut rest, 0, x);
+    wire::put1(&mut rest, a, 6);
+    let low = sha3::word(&rest, 0);
+    let high = sha3::word(&rest, 8);
+    Tail { low, high }
+}
+
+// .. of a number, the election's number and a place, with 0C. The compiler makes both lanes of the numbers, without the bytes.
+fn placed_tail(x: u32, election: u32, place: Place) -> Tail
+    ensures { λ r.
+        let b = ended ((bytes 4 x ++ bytes 4 election) ++ placeBytes place) in
+        ⌜ (r .low ≡ wordAt b 0) × (r .high ≡ wordAt b 8) ⌝ }
 {
     let mut rest = [0u8; 16];
     let a = wire::put4(&mut rest, 0, x);
     let b = wire::put4(&mut rest, a, election);
-    put_place(&mut rest, b, place);
-    sha3::hash_short(136, key, &rest, 14, out);
+    let c = put_place(&mut rest, b, place);
+    wire::put1(&mut rest, c, 6);
+    let low = sha3::word(&rest, 0);
+    let high = sha3::word(&rest, 8);
+    Tail { low, high }
 }
 
-// The hash of an opening that lies in the bytes, as it is posted in a place. The form of a commitment is known here and in
-// `put_commitment` only.
-fn hash_opening(p: Parameters, place: Place, bytes: &[u8], at: usize, out: &mut [u8; 32])
-    requires { ⌜ at + 36 ≤ length (now bytes) ⌝ }
-    ensures { λ _. ⌜ after out ≡ commitment p place (piece (before bytes) at 36) ⌝ }
+// .. in either form. The form of a commitment is known here only.
+fn tail_of(form: Form, place: Place, x: u32) -> Tail
+    ensures { λ r. let b = ended (behindKey form place x) in ⌜ (r .low ≡ wordAt b 0) × (r .high ≡ wordAt b 8) ⌝ }
 {
-    let key_end = at + 32;
-    let end = at + 36;
-    let form = p.form;
     match form {
-        Form::Unnumbered => sha3::sha3_256(&bytes[at..end], out),
-        Form::Numbered(election) => {
-            let x = wire::read4(bytes, key_end);
-            hash_placed(&bytes[at..key_end], x, election, place, out)
-        }
+        Form::Unnumbered => plain_tail(x),
+        Form::Numbered(election) => placed_tail(x, election, place),
     }
 }
 
@@ -83,10 +96,12 @@ pub fn gives(p: Parameters, place: Place, bytes: &[u8], opening_at: usize, poste
     requires { ⌜ («opening_at» + 36 ≤ length (now bytes)) × («posted_at» + 32 ≤ length (now bytes)) ⌝ }
     ensures { λ r. ⌜ r ≡ rules.gives p place (piece (before bytes) «opening_at» 36) (piece (before bytes) «posted_at» 32) ⌝ }
 {
-    let posted_end = posted_at + 32;
-    let mut hash = [0u8; 32];
-    hash_opening(p, place, bytes, opening_at, &mut hash);
-    wire::same_bytes(&hash, &bytes[posted_at..posted_end])
+    let key_end = opening_at + 32;
+    let x = wire::read4(bytes, key_end);
+    let form = p.form;
+    let t = tail_of(form, place, x);
+    let row = sha3::keyed_row(&bytes[opening_at..key_end], t.low, t.high);
+    sha3::has_digest(bytes, posted_at, row)
 }
 
 // Writes the opening of a key and a number at a place, and answers the next place.
@@ -98,8 +113,8 @@ pub fn put_opening(out: &mut [u8], at: usize, key: &[u8], x: u32) -> usize
     wire::put4(out, next, x)
 }
 
-// Writes the commitment to a key and a number that is posted in a place, and answers where the next byte goes. The sponge takes the key
-// where it lies, and the digest goes straight to its place.
+// Writes the commitment to a key and a number that is posted in a place, and answers where the next byte goes. The key is taken where it
+// lies, and the digest goes straight to its place.
 pub fn put_commitment(
     out: &mut [u8],
     at: usize,
@@ -111,15 +126,9 @@ pub fn put_commitment(
     requires { ⌜ (length (now key) ≡ 32) × (at + 32 ≤ length (now out)) ⌝ }
     ensures { λ r. ⌜ Went (before out) at (commitment p place (opening (before key) x)) (after out) r ⌝ }
 {
-    let end = at + 32;
     let form = p.form;
-    match form {
-        Form::Unnumbered => {
-            let mut number = [0u8; 4];
-            wire::put4(&mut number, 0, x);
-            sha3::hash_two(136, key, &number, &mut out[at..end])
-        }
-        Form::Numbered(election) => hash_placed(key, x, election, place, &mut out[at..end]),
-    }
-    end
+    let t = tail_of(form, place, x);
+    let row = sha3::keyed_row(key, t.low, t.high);
+    sha3::put_digest(out, at, row);
+    at + 32
 }

@@ -67,7 +67,7 @@ xor-shl k b low h = xor-comm low (b * 2 ^ k) ∙ xor-shifted b k low h
 more : (k b x y : ℕ) → x ≡ y → y < 2 ^ k → bitXor x (b * 2 ^ k) ≡ b * 2 ^ k + y
 more k b x y e h = ap (λ (z : ℕ). bitXor z (b * 2 ^ k)) e ∙ xor-shl k b y h
 
-word-le : (b0 b1 b2 b3 b4 b5 b6 b7 : ℕ) → b0 < 256 → b1 < 256 → b2 < 256 → b3 < 256 → b4 < 256 → b5 < 256 → b6 < 256 →
+pub word-le : (b0 b1 b2 b3 b4 b5 b6 b7 : ℕ) → b0 < 256 → b1 < 256 → b2 < 256 → b3 < 256 → b4 < 256 → b5 < 256 → b6 < 256 →
     bitXor
     (bitXor (bitXor (bitXor (bitXor (bitXor (bitXor b0 (b1 * 2 ^ 8)) (b2 * 2 ^ 16)) (b3 * 2 ^ 24)) (b4 * 2 ^ 32)) (b5 * 2 ^ 40)) (b6 * 2 ^ 48))
     (b7 * 2 ^ 56)

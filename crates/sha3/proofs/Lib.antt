@@ -3,4 +3,5 @@ pub mod Taking
 pub mod Squeeze
 pub mod Agree
 pub mod Digest
-pub mod Zeros
+pub mod Keyed
+pub mod Lanes

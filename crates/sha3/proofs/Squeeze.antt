@@ -51,7 +51,7 @@ length-putLane out i x zero = refl
 length-putLane out i x (suc n) = length-set (putLane out i x n) (i + n) (x / 2 ^ (n * 8) % 256) ∙ length-putLane out i x n
 
 -- a byte of a lane is one of the state
-lane-byte : (l : List ℕ) (k n : ℕ) → n < 8 → at l k / 2 ^ (n * 8) % 256 ≡ byteAt l (8 * k + n)
+pub lane-byte : (l : List ℕ) (k n : ℕ) → n < 8 → at l k / 2 ^ (n * 8) % 256 ≡ byteAt l (8 * k + n)
 unfolding byteAt
 lane-byte l k n h =
     let d : k ≡ (8 * k + n) / 8 = omega arith in

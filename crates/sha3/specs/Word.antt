@@ -1,10 +1,10 @@
 -- Eight bytes at once: those of a message as the code adds them to a lane, and those of a lane as it writes them.
-use mathlib.Core.Path.{_≡_}
-use mathlib.Core.List.{List}
-use Prim.Native.Nat.{ℕ, zero, suc, _+_, _-_, _*_, _/_, _%_, _^_, _≤_, _<_}
+use mathlib.Core.List.{List, [], _∷_, _++_}
+use Prim.Native.Nat.{ℕ, zero, suc, _+_, _-_, _*_, _/_, _%_, _^_}
 use lib.Bits.{bitXor}
-use lib.ListN.{length, set, drop, replicate}
-use Rattle.keccak.specs.Keccak.{at}
+use lib.ListN.{length, set, replicate}
+use Rattle.keccak.specs.Keccak.{at, keccakF}
+use Rattle.keccak.specs.Rows.{rowAt}
 
 -- the number that the eight bytes from i on make, the lowest first
 unfoldable pub wordAt : List ℕ → ℕ → ℕ
@@ -33,10 +33,16 @@ unfoldable pub putLane : List ℕ → ℕ → ℕ → ℕ → List ℕ
 putLane out i lane zero = out
 putLane out i lane (suc n) = set (putLane out i lane n) (i + n) (lane / 2 ^ (n * 8) % 256)
 
--- 16 bytes behind a message of k bytes, which are whole lanes: the first n of them count, behind these are zeros, and all fit into a block
-pub record Short (rate k : ℕ) (b : List ℕ) (n : ℕ) : Type 0 where
-  pub lanes : k % 8 ≡ 0
-  pub long : length b ≡ 16
-  pub counted : n ≤ 16
-  pub zeros : drop n b ≡ replicate (16 - n) 0
-  pub room : k + 16 < rate
+-- the block of a key of 32 bytes and of the two lanes behind it, with the last bit of the pad, at the rate of SHA3-256
+unfoldable pub keyed : List ℕ → ℕ → ℕ → List ℕ
+keyed key low high =
+    wordAt key 0 ∷ wordAt key 8 ∷ wordAt key 16 ∷ wordAt key 24 ∷ low ∷ high ∷ 0 ∷ 0 ∷ 0 ∷ 0 ∷ 0 ∷ 0 ∷ 0 ∷ 0 ∷ 0 ∷ 0 ∷
+    0x8000000000000000 ∷ 0 ∷ 0 ∷ 0 ∷ 0 ∷ 0 ∷ 0 ∷ 0 ∷ 0 ∷ []
+
+-- the first lanes of the state after that block, which have the digest
+unfoldable pub keyedRow : List ℕ → ℕ → ℕ → List ℕ
+keyedRow key low high = rowAt (keccakF (keyed key low high)) 0
+
+-- 16 bytes that have the end m of a message, of at most 15 bytes, behind it the suffix 01 and the first bit of the pad, and then zeros
+unfoldable pub ended : List ℕ → List ℕ
+ended m = m ++ (0x06 ∷ replicate (15 - length m) 0)

@@ -3,9 +3,12 @@ ghost use mathlib.Core.Path.{_≡_};
 ghost use mathlib.Core.List.{_++_};
 ghost use Prim.Native.Nat.{_+_, _/_, _≤_, _<_};
 ghost use lib.ListN.{length, take};
+ghost use Rattle.laws.specs.Chunks.{piece};
 ghost use Rattle.laws.specs.Lent.{before, after};
+ghost use Rattle.laws.specs.Tests.{same};
+ghost use Rattle.laws.specs.Writing.{Wrote};
 ghost use Rattle.sha3.specs.Sha3.{Rate, sponge, xorByte, absorbBytes, empty, padded, squeeze, digest, sha3-224, sha3-256};
-ghost use Rattle.sha3.specs.Word.{wordAt, halfWordAt, addWords, putLane, Short};
+ghost use Rattle.sha3.specs.Word.{wordAt, halfWordAt, addWords, putLane, keyedRow};
 
 // A sponge: the state, and how many bytes of the block at hand were added to it.
 pub struct Sponge {
@@ -14,7 +17,7 @@ pub struct Sponge {
 }
 
 // The eight bytes from `at` on, as a number, the lowest first.
-fn word(p: &[u8], at: usize) -> u64
+pub fn word(p: &[u8], at: usize) -> u64
     requires { ⌜ at + 8 ≤ length (now p) ⌝ }
     ensures { λ r. ⌜ r ≡ wordAt (before p) at ⌝ }
 {
@@ -141,6 +144,29 @@ fn squeeze_into(v: &[u64; 25], out: &mut [u8])
     put_rest(v, 8 * whole, out);
 }
 
+// The digest of SHA3-256 that the first lanes of a state have goes to `out` from `at` on.
+pub fn put_digest(out: &mut [u8], at: usize, row: [u64; 5])
+    requires { ⌜ at + 32 ≤ length (now out) ⌝ }
+    ensures { λ _. ⌜ Wrote (before out) at (squeeze row 32) (after out) ⌝ }
+{
+    put_lane(out, at, row[0]);
+    put_lane(out, at + 8, row[1]);
+    put_lane(out, at + 16, row[2]);
+    put_lane(out, at + 24, row[3]);
+}
+
+// Whether the digest of SHA3-256 that the first lanes of a state have stands in s from `at` on; lanes are compared, no digest is written.
+pub fn has_digest(s: &[u8], at: usize, row: [u64; 5]) -> bool
+    requires { ⌜ at + 32 ≤ length (now s) ⌝ }
+    ensures { λ r. ⌜ r ≡ same (squeeze row 32) (piece (before s) at 32) ⌝ }
+{
+    let a = word(s, at) == row[0];
+    let b = word(s, at + 8) == row[1];
+    let c = word(s, at + 16) == row[2];
+    let d = word(s, at + 24) == row[3];
+    a & b & c & d
+}
+
 // The end of the message, in lanes that have `fill` bytes of the last block: suffix, pad and digest, which is as long as `out`.
 fn finish_into(l: &mut [u64; 25], fill: usize, rate: usize, out: &mut [u8])
     requires { ⌜ Rate rate × ((fill < rate) × (length (now out) ≤ rate)) ⌝ }
@@ -184,34 +210,45 @@ fn hash(rate: usize, m: &[u8], out: &mut [u8])
     finish_into(&mut l, n, rate, out);
 }
 
-// The digest, as long as `out`, of a message in two parts.
-pub fn hash_two(rate: usize, a: &[u8], b: &[u8], out: &mut [u8])
-    requires { ⌜ Rate rate × (length (now out) ≤ rate) ⌝ }
-    ensures { λ _. ⌜ after out ≡ digest rate (length (before out)) (before a ++ before b) ⌝ }
+// The first lanes of the state, the digest's, after the one block of SHA3-256 that a key of 32 bytes and the two lanes behind it make, which
+// have the end of the message with the suffix and the first bit of the pad. A commitment is such a hash: most lanes are 0 here, and no
+// digest is written where it is only compared.
+pub fn keyed_row(key: &[u8], low: u64, high: u64) -> [u64; 5]
+    requires { ⌜ length (now key) ≡ 32 ⌝ }
+    ensures { λ r. ⌜ r ≡ keyedRow (before key) low high ⌝ }
 {
-    let s = start();
-    let mut l = s.lanes;
-    let one = absorb_into(&mut l, s.fill, rate, a);
-    let two = absorb_into(&mut l, one, rate, b);
-    finish_into(&mut l, two, rate, out);
-}
-
-// The digest, as long as `out`, of a message shorter than a block, in two parts: a, which is whole lanes, and the first n of b's 16 bytes.
-// Behind these b has zeros, which change no lane: so two lanes are taken at once. Their places in b are fixed, so that the compiler makes
-// them of what b was written from, and no read waits for bytes that were written one by one.
-pub fn hash_short(rate: usize, a: &[u8], b: &[u8], n: usize, out: &mut [u8])
-    requires { ⌜ Rate rate × ((length (now out) ≤ rate) × Short rate (length (now a)) (now b) n) ⌝ }
-    ensures { λ _. ⌜ after out ≡ digest rate (length (before out)) (before a ++ take n (before b)) ⌝ }
-{
-    let s = start();
-    let mut l = s.lanes;
-    let fill = absorb_into(&mut l, s.fill, rate, a);
-    let k = fill / 8;
-    let low = word(b, 0);
-    l[k] = l[k] ^ low;
-    let high = word(b, 8);
-    l[k + 1] = l[k + 1] ^ high;
-    finish_into(&mut l, fill + n, rate, out);
+    let k0 = word(key, 0);
+    let k1 = word(key, 8);
+    let k2 = word(key, 16);
+    let k3 = word(key, 24);
+    let state = [
+        k0,
+        k1,
+        k2,
+        k3,
+        low,
+        high,
+        0,
+        0,
+        0,
+        0,
+        0,
+        0,
+        0,
+        0,
+        0,
+        0,
+        0x8000000000000000,
+        0,
+        0,
+        0,
+        0,
+        0,
+        0,
+        0,
+        0,
+    ];
+    keccak::first_row(state)
 }
 
 // The digest, as long as `out`, of a message in three parts.
