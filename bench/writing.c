@@ -1,8 +1,10 @@
 /* Times of the product's writing of whole records, mask and sides drawn, in both forms, and of the
  * hashes alone that this takes, by the product's own SHA-3, taken in turn in one run: their ratio,
- * the same of each part, one form's time by the other's, the growth from n to 2n and from the first
- * n to the last, and the stack that the calls use at the last. */
+ * the same of each part, the ratio to the permutations alone at OpenSSL's speed, one form's time by
+ * the other's, the growth from n to 2n and from the first n to the last, and the stack that the
+ * calls use at the last. */
 
+#include "hashing.h"
 #include "inputs.h"
 #include "judge.h"
 #include "support.h"
@@ -26,9 +28,11 @@ struct times {
     double writing, hashing;
 };
 
+/* With the best time of one permutation of OpenSSL's. */
 static struct board {
     struct election of;
     struct times part[PARTS];
+    double openssl;
 } boards[FORMS][SIZES];
 
 /* The one that is written. */
@@ -41,7 +45,8 @@ static void make_boards(void) {
     fill(message, sizeof message, '0', 10);
     for (int i = 0; i < FORMS * SIZES; i++) {
         int form = i / SIZES, size = i % SIZES;
-        boards[form][size] = (struct board){lent_election(size, form), {none, none, none}};
+        struct election of = lent_election(size, form);
+        boards[form][size] = (struct board){of, {none, none, none}, INFINITY};
     }
 }
 
@@ -121,8 +126,21 @@ static const struct part {
     {"Part three, drawn", write_three, hash_three},
 };
 
+/* How often the three parts need Keccak-f[1600] by the papers: as above, a commitment or a draw
+ * taking one call, and the hash of what is before a dice command one for each whole block of 144
+ * bytes and one for its end. */
+static uint64_t permutations_due(const struct board *of) {
+    const struct paddockyear_parts *lent = &of->of.parts;
+    uint64_t n = of->of.in.ballots, commitments = (PARTS * OF_BALLOT + COMMITMENTS) * n;
+    uint64_t first = lent->one_length / 144 + 1;
+    uint64_t second = (lent->one_length + lent->two_length) / 144 + 1;
+    return commitments + first + LISTS + second + n;
+}
+
 static void time_board(void) {
     unsigned runs = MOST / board->of.in.ballots;
+    unsigned rows = (unsigned)(permutations_due(board) * runs / ROW);
+    board->openssl = smaller(openssl_permutation(rows), board->openssl);
     for (int i = 0; i < PARTS; i++) {
         struct times *best = &board->part[i];
         best->writing = smaller(time_each(parts[i].write, runs), best->writing);
@@ -171,8 +189,13 @@ static void print_board(int form, int size) {
     char name[32];
     snprintf(name, sizeof name, "Writing %s, n = %4d, m = %d", first_command(form), LEAST << size,
              COMPARED);
-    print_times(name, whole(of));
+    struct times sum = whole(of);
+    print_times(name, sum);
     printf(" (aim: at most %.2f)\n", AIM);
+    double calls = (double)permutations_due(of), theirs = calls * of->openssl;
+    printf("The same                       ours %9.3f ms   %.0f permutations of OpenSSL %9.3f ms",
+           1e3 * sum.writing, calls, 1e3 * theirs);
+    printf("   ratio %.3f\n", sum.writing / theirs);
     for (int i = 0; i < PARTS; i++) {
         print_times(parts[i].name, of->part[i]);
         printf("\n");
@@ -219,9 +242,11 @@ static void print_all(void) {
 
 int main(void) {
     demand(judge_start(), "no SHA-3 in OpenSSL");
+    hashing_start();
     make_boards();
     time_boards();
     print_all();
+    hashing_stop();
     judge_stop();
     return 0;
 }

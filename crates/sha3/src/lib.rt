@@ -210,9 +210,9 @@ fn hash(rate: usize, m: &[u8], out: &mut [u8])
     finish_into(&mut l, n, rate, out);
 }
 
-// The first lanes of the state, the digest's, after the one block of SHA3-256 that a key of 32 bytes and the two lanes behind it make, which
-// have the end of the message with the suffix and the first bit of the pad. A commitment is such a hash: most lanes are 0 here, and no
-// digest is written where it is only compared.
+// The first lanes of the state, which have the digest, after the one block of SHA3-256 that a key of 32 bytes and two lanes behind it make:
+// those have the end of the message, with the suffix and the first bit of the pad. A commitment is such a hash. All other lanes but one
+// are 0, of which the compiler makes use.
 pub fn keyed_row(key: &[u8], low: u64, high: u64) -> [u64; 5]
     requires { ⌜ length (now key) ≡ 32 ⌝ }
     ensures { λ r. ⌜ r ≡ keyedRow (before key) low high ⌝ }
