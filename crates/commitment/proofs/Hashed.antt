@@ -1,5 +1,5 @@
 -- What is hashed in each form, as the code has it: a key, and behind it the rest, of which two lanes are made.
-use mathlib.Core.Path.{_≡_, refl, sym, ap, ap₂, _∙_}
+use mathlib.Core.Path.{_≡_, refl, sym, ap, _∙_}
 use mathlib.Core.List.{List, [], _∷_, _++_, append-assoc}
 use Prim.Native.Nat.{ℕ, zero, suc, _+_, _-_, _/_, _%_, _≤_}
 use native.Mathlib.Omega.{arith}
@@ -38,7 +38,7 @@ behind-long (Numbered election) place x =
       length-place place,
     )
 
--- the lanes that the sponge gives for it are the commitment's
+-- the lanes that `sha3::keyed_row` gives for it have the commitment
 pub committed : (p : Parameters) (place : Place) (key : List ℕ) (x : ℕ) → length key ≡ 32 → {row : List ℕ} {low high : ℕ} →
     row ≡ keyedRow key low high →
     (low ≡ wordAt (ended (behindKey (p .form) place x)) 0) × (high ≡ wordAt (ended (behindKey (p .form) place x)) 8) →

@@ -47,7 +47,7 @@ fn put_place(out: &mut [u8], at: usize, place: Place) -> usize
     }
 }
 
-// What is hashed behind the key, with the end of a message, as the two lanes of the sponge that it fills.
+// What is hashed behind the key, with the end of a message, as the two lanes that it fills.
 struct Tail {
     low: u64,
     high: u64,

@@ -19,7 +19,7 @@ module _ (rate d : ℕ) where
   digest-below m = squeeze-below (padded rate (absorbBytes rate empty m)) d
 
   -- what `start`, `absorb` of each piece and `finish` give
-  pub digest-two : (p q : List ℕ) → digest rate d (p ++ q) ≡ squeeze (padded rate (absorbBytes rate (absorbBytes rate empty p) q)) d
+  digest-two : (p q : List ℕ) → digest rate d (p ++ q) ≡ squeeze (padded rate (absorbBytes rate (absorbBytes rate empty p) q)) d
   unfolding digest
   digest-two p q = ap (λ (s : Sponge). squeeze (padded rate s) d) (absorb-append rate empty p q)
 

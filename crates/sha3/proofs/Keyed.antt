@@ -11,7 +11,7 @@ use lib.Seq.{drop-length}
 use Rattle.keccak.specs.Keccak.{at, keccakF}
 use Rattle.keccak.specs.Rows.{rowAt}
 use Rattle.sha3.specs.declared.Sponge.{Sponge}
-use Rattle.sha3.specs.Sha3.{sponge, xorByte, turn, absorbByte, absorbBytes, empty, padded, byteAt, squeeze, digest, sha3-256}
+use Rattle.sha3.specs.Sha3.{sponge, xorByte, absorbByte, absorbBytes, empty, padded, byteAt, squeeze, digest, sha3-256}
 use Rattle.sha3.specs.Word.{wordAt, keyed, keyedRow, ended}
 use Rattle.sha3.proofs.Taking.{turn-more, word-law, absorb-append}
 use Rattle.sha3.proofs.Agree.{zero-byte}

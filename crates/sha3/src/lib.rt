@@ -65,7 +65,7 @@ fn add_block(l: &mut [u64; 25], rate: usize, p: &[u8], at: usize)
 }
 
 // More of the message, into lanes that have `filled` bytes of the block at hand; answers how many they have then. A block that is due is
-// taken at once, and so are a lane and the lower half of one: an opening ends in four bytes.
+// taken at once, and so are a lane and the lower half of one.
 fn absorb_into(l: &mut [u64; 25], filled: usize, rate: usize, p: &[u8]) -> usize
     requires { ⌜ Rate rate × (filled < rate) ⌝ }
     ensures { λ r. ⌜ (sponge (after l) r ≡ absorbBytes rate (sponge (before l) filled) (before p)) × (r < rate) ⌝ }

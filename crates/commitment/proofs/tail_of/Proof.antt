@@ -1,8 +1,5 @@
 -- `commitment::tail_of` meets its contract in either form.
-use mathlib.Core.Path.{sym, ap, _∙_}
-use mathlib.Core.List.{List}
 use borrow.Author.Needs.{needs}
-use Rattle.sha3.specs.Word.{wordAt, ended}
 use Rattle.commitment.specs.Behind.{behindKey}
 use Rattle.commitment.proofs.tail_of.Statement.{statement}
 use Rattle.commitment.proofs.tail_of.Tie as tie
