@@ -11,7 +11,7 @@ use Rattle.laws.specs.At.{number-piece}
 use Rattle.laws.specs.Bytes.{number}
 use Rattle.laws.specs.Chunks.{piece, length-piece, get-piece}
 use Rattle.laws.specs.Faults.{_then_, first-nothing, first-stop, nothing-fault}
-use Rattle.laws.specs.Neighbours.{AllSorted, Least, none-below, least-copies}
+use Rattle.laws.specs.Neighbours.{TwinsSorted, Least, none-below, least-copies}
 use Rattle.protocol.specs.declared.Parameters.{Parameters}
 use Rattle.protocol.specs.declared.Due.the-variants.{Ballot}
 use Rattle.protocol.specs.Layout.{atBallot}
@@ -40,7 +40,7 @@ values p r {base} k small e room = record {
 
 -- ---- the answer
 
-module _ (p : Parameters) (r : List ℕ) {v : ℕ → ℕ} {k j : ℕ} {s : List ℕ} (w : Values (ballotCommitmentOf p r) v k) (h : AllSorted v k s)
+module _ (p : Parameters) (r : List ℕ) {v : ℕ → ℕ} {k j : ℕ} {s : List ℕ} (w : Values (ballotCommitmentOf p r) v k) (h : TwinsSorted v k s)
     (g : Least v k s (length s - 1) j) where
   none-found : (i : ℕ) → i < j → copyFault p r i ≡ Nothing
   unfolding copyFault
