@@ -51,13 +51,13 @@ module _ (s : Slices) (passed : Passed s) where
 
     -- `a` being where its keys start
     entry-opening-is : (l i a q : ℕ) → a ≡ entryKeysAt (s .parameters .ballots) l i
-        → ((q : ℕ) → q < 6 → (item six q ≡ entryNumber (inputsOf (trail (s .parameters) (s .votes) (s .numbers) (s .permutations))) l i q) × (item six q < s .parameters .modulus)) → q < 6
+        → item six q ≡ entryNumber (inputsOf (trail (s .parameters) (s .votes) (s .numbers) (s .permutations))) l i q
         → openingOf six (take (a + 192 - a) (drop a (s .keys))) q
         ≡ entryOpening (inputsOf s) l i q
     unfolding openingOf entryOpening inputsOf entryKeys
-    entry-opening-is l i a q e h lq =
+    entry-opening-is l i a q e h =
         rw e
-        (ap₂ opening (ap (λ (own : List ℕ). piece own (32 * q) 32) (part-is (s .keys) (entryKeysAt (s .parameters .ballots) l i) 192)) (h q lq .0 ∙ entry-same s l i q))
+        (ap₂ opening (ap (λ (own : List ℕ). piece own (32 * q) 32) (part-is (s .keys) (entryKeysAt (s .parameters .ballots) l i) 192)) (h ∙ entry-same s l i q))
 
     pub ballot-half-is : (j side : ℕ) → side ≤ 1
         → ((q : ℕ) → q < 6 → (item six q ≡ ballotNumber (inputsOf (trail (s .parameters) (s .votes) (s .numbers) [])) j q) × (item six q < s .parameters .modulus))
@@ -67,13 +67,14 @@ module _ (s : Slices) (passed : Passed s) where
     ballot-half-is j side ls h =
         ap (λ (x : List ℕ). ((7 ∷ bytes 2 j) ++ bytes 1 side) ++ x) (chunks-same _ _ 3 (λ k lk. ballot-opening-is j (2 * k + side) h (omega arith)))
 
-    pub list-half-is : (l i a side : ℕ) → a ≡ entryKeysAt (s .parameters .ballots) l i → side ≤ 1
-        → ((q : ℕ) → q < 6 → (item six q ≡ entryNumber (inputsOf (trail (s .parameters) (s .votes) (s .numbers) (s .permutations))) l i q) × (item six q < s .parameters .modulus))
+    pub list-half-is : (l i a side : ℕ) → a ≡ entryKeysAt (s .parameters .ballots) l i
+        → ((k : ℕ) → k < 3
+        → item six (2 * k + side) ≡ entryNumber (inputsOf (trail (s .parameters) (s .votes) (s .numbers) (s .permutations))) l i (2 * k + side))
         → listHalfCommand l i (λ k. openingOf six (take (a + 192 - a) (drop a (s .keys))) (2 * k + side))
         ≡ listHalfCommand l i (λ k. entryOpening (inputsOf s) l i (2 * k + side))
     unfolding listHalfCommand
-    list-half-is l i a side e ls h =
-        ap (λ (x : List ℕ). ((8 ∷ bytes 1 l) ++ bytes 2 i) ++ x) (chunks-same _ _ 3 (λ k lk. entry-opening-is l i a (2 * k + side) e h (omega arith)))
+    list-half-is l i a side e h =
+        ap (λ (x : List ℕ). ((8 ∷ bytes 1 l) ++ bytes 2 i) ++ x) (chunks-same _ _ 3 (λ k lk. entry-opening-is l i a (2 * k + side) e (h k lk)))
 
     pub full-is : (l i a : ℕ) → a ≡ entryKeysAt (s .parameters .ballots) l i
         → ((q : ℕ) → q < 6 → (item six q ≡ entryNumber (inputsOf (trail (s .parameters) (s .votes) (s .numbers) (s .permutations))) l i q) × (item six q < s .parameters .modulus))
@@ -81,7 +82,7 @@ module _ (s : Slices) (passed : Passed s) where
         ≡ fullCommand l i (entryOpening (inputsOf s) l i)
     unfolding fullCommand
     full-is l i a e h =
-        ap (λ (x : List ℕ). ((10 ∷ bytes 1 l) ++ bytes 2 i) ++ x) (chunks-same _ _ 6 (λ q lq. entry-opening-is l i a q e h lq))
+        ap (λ (x : List ℕ). ((10 ∷ bytes 1 l) ++ bytes 2 i) ++ x) (chunks-same _ _ 6 (λ q lq. entry-opening-is l i a q e (h q lq .0)))
 
   -- ---- how long they are
 

@@ -51,7 +51,7 @@ fn put_if_compared(
     let i = places[layout::rank(mask, l) * n + j] as usize;
     let from = mixing::keys_at(p, l, i);
     let to = from + KEYS_WIDTH;
-    let six = mixing::entry(p, votes, numbers, permutations, l, i);
+    let six = mixing::entry_side(p, votes, numbers, permutations, l, i, side);
     commands::put_list_half(out, at, l as u32, i as u32, side, six, &keys[from..to])
 }
 

@@ -183,6 +183,25 @@ entry-is p votes numbers permutations l i at li ex ey ez e at-is =
     split-is (p .modulus) _ _ _ numbers at (λ k. mixed (inputsOf (trail p votes numbers permutations)) l k i) _ ex ey ez e
     (entry-half (trail p votes numbers permutations) l i at li at-is)
 
+-- the first halves alone, each in its slot
+pub first-halves : (p : Parameters) (votes numbers permutations : List ℕ) (l i at : ℕ) {first : List ℕ} (side : ℕ) → side ≡ 0 → i < p .ballots
+    → first ≡ threeAt numbers at → at ≡ 5 * p .ballots + l * (9 * p .ballots) + (6 * p .ballots + 3 * i) → (k : ℕ) → k < 3
+    → item (item first 0 ∷ 0 ∷ item first 1 ∷ 0 ∷ item first 2 ∷ 0 ∷ []) (2 * k + side)
+    ≡ entryNumber (inputsOf (trail p votes numbers permutations)) l i (2 * k + side)
+unfolding entryNumber inputsOf slot choose
+first-halves p votes numbers permutations l i at {first} side z li e at-is k lk = rw z (go k lk)
+  where
+    half : (k : ℕ) → k < 3 → item numbers (at + k) ≡ inputsOf (trail p votes numbers permutations) .entryFirstHalf l i k
+    half = entry-half (trail p votes numbers permutations) l i at li at-is
+
+    go : (k : ℕ) → k < 3
+        → item (item first 0 ∷ 0 ∷ item first 1 ∷ 0 ∷ item first 2 ∷ 0 ∷ []) (2 * k + 0)
+        ≡ entryNumber (inputsOf (trail p votes numbers permutations)) l i (2 * k + 0)
+    go zero lk = ap (λ (d : List ℕ). item d 0) e ∙ ap (item numbers) {x = at} {y = at + 0} (omega arith) ∙ half 0 (omega arith)
+    go (suc zero) lk = ap (λ (d : List ℕ). item d 1) e ∙ half 1 (omega arith)
+    go (suc (suc zero)) lk = ap (λ (d : List ℕ). item d 2) e ∙ half 2 (omega arith)
+    go (suc (suc (suc k))) lk = absurd (omega arith)
+
 -- ---- links
 
 -- three first halves, summed

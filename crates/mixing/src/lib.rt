@@ -181,6 +181,32 @@ pub fn entry(
     )
 }
 
+// The six numbers of place i of list l where those of one side are asked for. Of side 0 these are the first halves, for which nothing is
+// followed, and 0 stands for the others.
+pub fn entry_side(
+    p: Parameters,
+    votes: &[u32],
+    numbers: &[u32],
+    permutations: &[u16],
+    l: usize,
+    i: usize,
+    side: u32,
+) -> [u32; 6]
+    requires { ⌜ (side ≤ 1) × (Votes p (now votes) × (Numbers p (now numbers) × (Places p (now permutations)
+        × (InList p l × (i < p .ballots))))) ⌝ }
+    ensures { λ r.
+        let s = inputsOf (trail p (before votes) (before numbers) (before permutations)) in
+        ⌜ ((k : ℕ) → k < 3 → item r (2 * k + side) ≡ entryNumber s l i (2 * k + side)) ⌝ }
+{
+    if side != 0 {
+        return entry(p, votes, numbers, permutations, l, i);
+    }
+    let start = numbers_at(p, l);
+    let n = p.ballots;
+    let first = three(numbers, start + (6 * n + 3 * i));
+    [first[0], 0, first[1], 0, first[2], 0]
+}
+
 // The place of each ballot in list l.
 pub fn fill_places(p: Parameters, permutations: &[u16], l: usize, out: &mut [u16])
     requires { ⌜ Places p (now permutations) × (InList p l × (length (now out) ≡ p .ballots)) ⌝ }

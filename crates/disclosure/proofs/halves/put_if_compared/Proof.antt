@@ -64,11 +64,11 @@ listed c = in-list (slices (start-of c)) (start-of c .pre .0 .passed .tests) (st
 keys-at-requires : tie.Need-keys-at-requires
 keys-at-requires c κs = (listed (c .before), inside (c .before))
 
-entry-requires : tie.Need-entry-requires
-entry-requires c κs =
+entry-side-requires : tie.Need-entry-side-requires
+entry-side-requires c κs =
     let s = start-of (c .before .before) in
     let u = s .pre .0 .passed .tests in
-    (votes (slices s) u, (numbers (slices s) u, (places (slices s) u, (listed (c .before .before), inside (c .before .before)))))
+    (s .pre .1 .1 .1 .1 .0, (votes (slices s) u, (numbers (slices s) u, (places (slices s) u, (listed (c .before .before), inside (c .before .before))))))
 
 put-list-half-requires : tie.Need-put-list-half-requires
 put-list-half-requires c κs =
@@ -91,7 +91,7 @@ returns-2 c =
     let from = c .before .before .before .before .before .before .keys-at in
     when-set (bit (a .mask) (a .l)) [] (halfOf t (a .j) (a .side) (a .l)) (found-at .before .if1 .left)
     (go-same (c .before .before .put-list-half .ensures)
-    (list-half-is t (s .pre .0 .passed) _ (a .l) (place found-at) (from .result) (a .side) (from .ensures .0) (s .pre .1 .1 .1 .1 .0) (c .before .before .before .before .before .entry .ensures)
+    (list-half-is t (s .pre .0 .passed) _ (a .l) (place found-at) (from .result) (a .side) (from .ensures .0) (c .before .before .before .before .before .entry-side .ensures)
     ∙ ap (λ (i : ℕ). listHalfCommand (a .l) i (λ k. entryOpening (inputsOf t) (a .l) i (2 * k + a .side))) (found found-at)))
 
 pub put-if-compared-spec : {M : Type 1} → statement M
@@ -109,7 +109,7 @@ put-if-compared-spec =
     (λ c. omega (arith, inside (c .before), c .before .before .before .before .before .before .before .before .before .before .pre .0 .passed .tests .ballots-high))
     keys-at-requires
     (λ c. omega (arith, c .keys-at .ensures .0, near (c .before .before), start-of (c .before .before) .pre .0 .passed .tests .ballots-high))
-    entry-requires
+    entry-side-requires
     (λ c. omega (arith, start-of (c .before .before .before .before) .pre .0 .passed .tests .compared-high))
     (λ c. omega (arith, inside (c .before .before .before .before), start-of (c .before .before .before .before) .pre .0 .passed .tests .ballots-high))
     (λ c. omega arith)
