@@ -2,7 +2,8 @@
  * hashes alone that this takes, by the product's own SHA-3, taken in turn in one run: their ratio,
  * the same of each part, the ratio to the permutations alone at OpenSSL's speed, one form's time by
  * the other's, the growth from n to 2n and from the first n to the last, and the stack that the
- * calls use at the last. */
+ * calls use at the last. With KEYED_ROW the commitments are hashed by the function that writing
+ * itself uses, else by the face of SHA3-256, which is slower. */
 
 #include "hashing.h"
 #include "inputs.h"
@@ -77,11 +78,55 @@ static void write_all(void) {
     demand(answer == 0, "the election is refused");
 }
 
+#ifdef KEYED_ROW
+
+/* `sha3::keyed_row`, no face but a function inside the archive, which bench/run names so: one block
+ * of SHA3-256 of a key and the two lanes behind it, of which the first four lanes are the digest. */
+struct lent {
+    const uint8_t *bytes;
+    size_t length;
+};
+void keyed_row(uint64_t row[5], const struct lent *key, uint64_t low, uint64_t high);
+
+/* What is behind the key is at most 14 bytes, and ends in the byte 06. */
+static void hash_opening(const uint8_t *opening, size_t length, uint8_t digest[32]) {
+    const struct lent key = {opening, 32};
+    uint64_t row[5], low = 0, high = 0;
+    if (length == OPENING) {
+        memcpy(&low, opening + 32, 4);
+        low |= (uint64_t)6 << 32;
+    } else {
+        memcpy(&low, opening + 32, 8);
+        memcpy(&high, opening + 40, 6);
+        high |= (uint64_t)6 << 48;
+    }
+    keyed_row(row, &key, low, high);
+    memcpy(digest, row, 32);
+}
+
+#else
+
+static void hash_opening(const uint8_t *opening, size_t length, uint8_t digest[32]) {
+    paddockyear_sha3_256(opening, length, digest);
+}
+
+#endif
+
+/* Both forms are hashed as the face does it, or their times mean nothing. */
+static void check_hashing(void) {
+    uint8_t ours[32], faces[32];
+    for (size_t length = OPENING; length <= PLACED; length += PLACED - OPENING) {
+        hash_opening(openings[0], length, ours);
+        paddockyear_sha3_256(openings[0], length, faces);
+        demand(memcmp(ours, faces, sizeof ours) == 0, "a commitment is hashed to something else");
+    }
+}
+
 /* So many commitments for each ballot. */
 static void hash_openings(size_t each) {
     uint8_t digest[32];
     size_t count = each * board->of.in.ballots, length = board->of.in.numbered ? PLACED : OPENING;
-    for (size_t i = 0; i < count; i++) paddockyear_sha3_256(openings[i], length, digest);
+    for (size_t i = 0; i < count; i++) hash_opening(openings[i], length, digest);
 }
 
 /* The ballots' commitments, which each part makes for its test of copies, and then all that it
@@ -244,6 +289,7 @@ int main(void) {
     demand(judge_start(), "no SHA-3 in OpenSSL");
     hashing_start();
     make_boards();
+    check_hashing();
     time_boards();
     print_all();
     hashing_stop();

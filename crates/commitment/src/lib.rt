@@ -109,8 +109,8 @@ pub fn put_opening(out: &mut [u8], at: usize, key: &[u8], x: u32) -> usize
     requires { ⌜ (length (now key) ≡ 32) × (at + 36 ≤ length (now out)) ⌝ }
     ensures { λ r. ⌜ Went (before out) at (opening (before key) x) (after out) r ⌝ }
 {
-    let next = wire::copy_key(out, at, key);
-    wire::put4(out, next, x)
+    sha3::copy_key(out, at, key);
+    wire::put4(out, at + 32, x)
 }
 
 // Writes the commitment to a key and a number that is posted in a place, and answers where the next byte goes. The key is taken where it

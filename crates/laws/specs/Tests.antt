@@ -1,7 +1,7 @@
 -- Tests, each with the statement that it decides. They are shut, so that a law finds their arguments.
 use mathlib.Core.Path.{_≡_, refl, sym, ap, _∙_}
 use mathlib.Core.Logic.{_↔_, _≢_, _⊎_, inl, inr}
-use mathlib.Core.Bool.{Bool, true, false, not}
+use mathlib.Core.Bool.{Bool, true, false, not, _&&_}
 use mathlib.Core.List.{List, [], _∷_}
 use Prim.Native.Nat.{ℕ, zero, suc, _+_, _≤_, _<_}
 use native.Mathlib.Nat.{not-suc-le-zero, le-refl}
@@ -189,6 +189,15 @@ every-more f i z e = rw add-one (and-iff (every f i) (f i) .1 (z, e))
 
 pub every-stop : (f : ℕ → Bool) (n i : ℕ) → i < n → f i ≡ false → false ≡ every f n
 every-stop f n i l e = sym (refuted (every f n) (λ t. never (every-iff f n .0 t i l) e))
+
+-- .. or that of a loop that goes through to the end
+pub every-turn : (f : ℕ → Bool) (i : ℕ) {r : Bool} → r ≡ every f i → (r && f i) ≡ every f (i + 1)
+unfolding every _and_
+every-turn f i e = rw (add-one, e) (as-and (every f i) (f i))
+  where
+    as-and : (x y : Bool) → (x && y) ≡ (x and y)
+    as-and true y = refl
+    as-and false y = refl
 
 -- two lists of one length are the same if they are at each place
 pub same-every : (a b : List ℕ) → length a ≡ length b → same a b ≡ every (λ i. equal (getD a i 0) (getD b i 0)) (length a)

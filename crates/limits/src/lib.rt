@@ -42,18 +42,17 @@ pub fn in_limits(p: Parameters) -> bool
     p.compared <= 12
 }
 
-// Whether every number of a slice is below a limit.
+// Whether every number of a slice is below a limit. It does not stop at the first that is not: so the compiler compares many at once.
 pub fn all_below(limit: u32, numbers: &[u32]) -> bool
     ensures { λ r. ⌜ r ≡ allBelow limit (before numbers) ⌝ }
 {
+    let mut all = true;
     let mut i: usize = 0;
     while i < numbers.len() {
-        if limit <= numbers[i] {
-            return false;
-        }
+        all = all & (numbers[i] < limit);
         i += 1;
     }
-    true
+    all
 }
 
 // Whether n numbers are the places below n, each once. One mark is set for each.

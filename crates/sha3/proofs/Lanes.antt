@@ -1,5 +1,5 @@
 -- A digest is the bytes of four lanes. `putLane` puts those of one, and a word that is read is a lane exactly if the bytes read are the lane's:
--- so a digest may be written and compared lane by lane.
+-- so a digest may be written and compared lane by lane, and 32 bytes copied.
 use mathlib.Core.Path.{_≡_, refl, sym, ap, ap₂, _∙_}
 use mathlib.Core.Bool.{Bool, true, false, _&&_}
 use mathlib.Core.List.{List, [], _∷_, _++_, append-assoc, append-nil}
@@ -10,6 +10,7 @@ use lib.Arith.{lt-one}
 use lib.Dec.{eqb}
 use lib.ListN.{length, set}
 use lib.Pow.{shr-shr}
+use lib.Seq.{take-all}
 use borrow.Author.Tests.{eqb-true, eq-eqb}
 use Rattle.laws.specs.Bytes.{Below}
 use Rattle.laws.specs.Chunks.{piece, piece-join, length-piece, get-piece}
@@ -151,3 +152,21 @@ module _ (s : List ℕ) (bytes : (k : ℕ) → at s k < 256) where
       (lane-same l _ i (i + 16) 2 c (omega arith) (omega arith) (small 2)
       (lane-same l _ i (i + 8) 1 b (omega arith) (omega arith) (small 1)
       (lane-same l true i i 0 a (omega arith) (omega arith) (small 0) refl p) q) r) t
+
+  -- the bytes of the words that are read, one lane more
+  lane-copied : (l : List ℕ) (i k : ℕ) → i + (8 * k + 8) ≤ length s → squeeze l (8 * k) ≡ piece s i (8 * k) → at l k ≡ wordAt s (i + 8 * k)
+      → squeeze l (8 * k + 8) ≡ piece s i (8 * k + 8)
+  lane-copied l i k h g e =
+      let j = i + 8 * k in
+      let long : length (piece s j 8) ≡ 8 = length-piece s j 8 (omega arith) in
+      let all : low 8 (le (piece s j 8)) ≡ piece s j 8 =
+      ap (λ (n : ℕ). low n (le (piece s j 8))) (sym long) ∙ low-le (piece s j 8) (λ n m. omega (arith, get-piece s j 8 n (omega arith), bytes (j + n))) in
+      lane-squeezed l k 8 (omega arith) ∙ ap₂ (λ (x y : List ℕ). x ++ y) g (ap (low 8) (e ∙ word-is j (omega arith)) ∙ all) ∙ piece-join s i (8 * k) 8
+
+  -- .. and of four
+  pub words-copied : (l : List ℕ) → length s ≡ 32 → at l 0 ≡ wordAt s 0 → at l 1 ≡ wordAt s 8 → at l 2 ≡ wordAt s 16 → at l 3 ≡ wordAt s 24
+      → squeeze l 32 ≡ s
+  unfolding squeeze
+  words-copied l h p q r t =
+      lane-copied l 0 3 (omega arith) (lane-copied l 0 2 (omega arith) (lane-copied l 0 1 (omega arith) (lane-copied l 0 0 (omega arith) refl p) q) r) t
+      ∙ take-all 32 s (omega arith)

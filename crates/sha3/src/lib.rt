@@ -155,6 +155,18 @@ pub fn put_digest(out: &mut [u8], at: usize, row: [u64; 5])
     put_lane(out, at + 24, row[3]);
 }
 
+// Copies 32 bytes, a key, to `out` from `at` on: by lanes, all read before the first is written, so that the compiler moves many bytes at once.
+pub fn copy_key(out: &mut [u8], at: usize, key: &[u8])
+    requires { ⌜ (length (now key) ≡ 32) × (at + 32 ≤ length (now out)) ⌝ }
+    ensures { λ _. ⌜ Wrote (before out) at (before key) (after out) ⌝ }
+{
+    let w0 = word(key, 0);
+    let w1 = word(key, 8);
+    let w2 = word(key, 16);
+    let w3 = word(key, 24);
+    put_digest(out, at, [w0, w1, w2, w3, 0]);
+}
+
 // Whether the digest of SHA3-256 that the first lanes of a state have stands in s from `at` on; lanes are compared, no digest is written.
 pub fn has_digest(s: &[u8], at: usize, row: [u64; 5]) -> bool
     requires { ⌜ at + 32 ≤ length (now s) ⌝ }

@@ -139,21 +139,6 @@ pub fn copy(out: &mut [u8], at: usize, src: &[u8]) -> usize
     at + i
 }
 
-// Copies a key of 32 bytes, four at a time: those four are read before they are written, so that the compiler moves them at once.
-pub fn copy_key(out: &mut [u8], at: usize, key: &[u8]) -> usize
-    requires { ⌜ (length (now key) ≡ 32) × (at + 32 ≤ length (now out)) ⌝ }
-    ensures { λ r. ⌜ Went (before out) at (before key) (after out) r ⌝ }
-{
-    let mut next = at;
-    let mut k: usize = 0;
-    while k < 8 {
-        let word = read4(key, 4 * k);
-        next = put4(out, next, word);
-        k += 1;
-    }
-    next
-}
-
 // Whether a and b are the same bytes. It does not stop at the first difference: a loop that goes through to the end
 // lets the compiler compare many bytes at once.
 pub fn same_bytes(a: &[u8], b: &[u8]) -> bool

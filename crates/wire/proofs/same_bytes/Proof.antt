@@ -1,26 +1,16 @@
 -- `wire::same_bytes` meets its contract. The loop: `equal` says whether the bytes passed are equal.
 use mathlib.Core.Path.{_≡_, refl, sym, ap, _∙_}
-use mathlib.Core.Bool.{Bool, true, false, _&&_}
+use mathlib.Core.Bool.{Bool}
 use mathlib.Core.List.{List}
-use Prim.Native.Nat.{ℕ, _+_, _-_, _≤_}
-use native.Mathlib.Numerals.{add-one}
+use Prim.Native.Nat.{ℕ, _-_, _≤_}
 use native.Mathlib.Omega.{arith}
 use lib.ListN.{length, getD}
-use Rattle.laws.specs.Tests.{equal, _and_, every, same, same-iff, same-every, refuted}
+use Rattle.laws.specs.Tests.{equal, every, every-turn, same, same-iff, same-every, refuted}
 use Rattle.wire.proofs.same_bytes.Statement.{statement}
 use Rattle.wire.proofs.same_bytes.Tie as tie
 
 abbrev alike : List ℕ → List ℕ → ℕ → Bool
 alike a b k = equal (getD a k 0) (getD b k 0)
-
--- a turn of a loop that goes through to the end
-every-turn : (f : ℕ → Bool) (i : ℕ) {r : Bool} → r ≡ every f i → (r && f i) ≡ every f (i + 1)
-unfolding every _and_
-every-turn f i e = rw (add-one, e) (as-and (every f i) (f i))
-  where
-    as-and : (x y : Bool) → (x && y) ≡ (x and y)
-    as-and true y = refl
-    as-and false y = refl
 
 abbrev Inv-loop : tie.InvT-loop
 Inv-loop a b equal₀ i₀ equal i = (i ≤ length a) × (equal ≡ every (alike a b) i)
