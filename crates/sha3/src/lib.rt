@@ -155,7 +155,8 @@ pub fn put_digest(out: &mut [u8], at: usize, row: [u64; 5])
     put_lane(out, at + 24, row[3]);
 }
 
-// Copies 32 bytes, a key, to `out` from `at` on: by lanes, all read before the first is written, so that the compiler moves many bytes at once.
+// Copies 32 bytes, a key, to `out` from `at` on: by lanes, all read before the first is written, so that the compiler moves many bytes at
+// once.
 pub fn copy_key(out: &mut [u8], at: usize, key: &[u8])
     requires { ⌜ (length (now key) ≡ 32) × (at + 32 ≤ length (now out)) ⌝ }
     ensures { λ _. ⌜ Wrote (before out) at (before key) (after out) ⌝ }
