@@ -1,7 +1,8 @@
 // Part one of a record, commands 01 or 0C, 02 and 03: the parameters, the ballots, and the entries of all lists.
+#![tactic(auto)]
+
 ghost use Rattle.std.specs.Prelude.{◌≡◌, [], ◌+◌, ◌*◌, ◌≤◌, ◌<◌, length};
 ghost use Rattle.laws.specs.Chunks.{chunks};
-ghost use Rattle.laws.specs.Lent.{before, after};
 ghost use Rattle.laws.specs.Writing.{Went};
 ghost use Rattle.protocol.specs.Terms.{parameters};
 ghost use Rattle.protocol.specs.Answers.{answer_of, written_answer};
@@ -28,9 +29,9 @@ fn put_ballots(
 ) -> usize
     requires { let s = given p ids.now votes.now numbers.now permutations.now keys.now in
         Passed s × (at + p.ballots * 197 ≤ length out.old) }
-    ensures { let s = given p (before ids) (before votes) (before numbers) (before permutations) (before keys) in
+    ensures { let s = given p ids.now votes.now numbers.now permutations.now keys.now in
         let b = posted_board (inputs_of s) in
-        Went (before out) at (chunks (λ j. ballot_command (b.id j) (b.ballot_commitment j)) p.ballots) (after out) result }
+        Went out.old at (chunks (λ j. ballot_command (b.id j) (b.ballot_commitment j)) p.ballots) out.new result }
 {
     let n = p.ballots;
     let mut next = at;
@@ -59,9 +60,9 @@ fn put_entries(
 ) -> usize
     requires { let s = given p ids.now votes.now numbers.now permutations.now keys.now in
         Passed s × ((l < layout.lists p) × (at + p.ballots * 196 ≤ length out.old)) }
-    ensures { let s = given p (before ids) (before votes) (before numbers) (before permutations) (before keys) in
+    ensures { let s = given p ids.now votes.now numbers.now permutations.now keys.now in
         let b = posted_board (inputs_of s) in
-        Went (before out) at (chunks (λ i. entry_command l i (b.entry_commitment l i)) p.ballots) (after out) result }
+        Went out.old at (chunks (λ i. entry_command l i (b.entry_commitment l i)) p.ballots) out.new result }
 {
     let n = p.ballots;
     let mut next = at;
@@ -89,10 +90,10 @@ fn put_lists(
 ) -> usize
     requires { let s = given p ids.now votes.now numbers.now permutations.now keys.now in
         Passed s × (at + layout.lists p * (p.ballots * 196) ≤ length out.old) }
-    ensures { let s = given p (before ids) (before votes) (before numbers) (before permutations) (before keys) in
+    ensures { let s = given p ids.now votes.now numbers.now permutations.now keys.now in
         let b = posted_board (inputs_of s) in
         let n = p.ballots in
-        Went (before out) at (chunks (λ l. chunks (λ i. entry_command l i (b.entry_commitment l i)) n) (layout.lists p)) (after out) result }
+        Went out.old at (chunks (λ l. chunks (λ i. entry_command l i (b.entry_commitment l i)) n) (layout.lists p)) out.new result }
 {
     let lists = 2 * p.compared;
     let mut next = at;
@@ -116,8 +117,8 @@ pub fn write(
 )
     requires { let s = given p ids.now votes.now numbers.now permutations.now keys.now in
         Passed s × (length out.old ≡ layout.part_one_length p) }
-    ensures { let s = given p (before ids) (before votes) (before numbers) (before permutations) (before keys) in
-        after out ≡ first_part s }
+    ensures { let s = given p ids.now votes.now numbers.now permutations.now keys.now in
+        out.new ≡ first_part s }
 {
     let first = commands::put_first(out, 0, p);
     let next = put_ballots(out, first, p, ids, votes, numbers, permutations, keys);
@@ -138,9 +139,9 @@ pub fn part_one(
     out: &mut [u8],
 ) -> Written
     ensures { let p = parameters form modulus ballots compared in
-        let s = given p (before ids) (before votes) (before numbers) (before permutations) (before keys) in
-        let k = part_one_refusal s (length (before out)) in
-        (written_answer result ≡ answer_of k []) × (after out ≡ afterwards k (before out) (first_part s)) }
+        let s = given p ids.now votes.now numbers.now permutations.now keys.now in
+        let k = part_one_refusal s (length out.old) in
+        (written_answer result ≡ answer_of k []) × (out.new ≡ afterwards k out.old (first_part s)) }
 {
     let p = Parameters {
         form,

@@ -1,6 +1,7 @@
 // The program that writes an election's calendar: its arguments are the election day and the holidays, rising, each as in 2026-03-31.
+#![tactic(auto)]
+
 ghost use Rattle.std.specs.Prelude.{true, ◌≡◌, ◌-◌, ◌≤◌, ◌<◌, length, drop};
-ghost use Rattle.laws.specs.Lent.{before, after};
 ghost use Rattle.protocol.specs.Terms.{item};
 ghost use Rattle.protocol.specs.Results.{in_front};
 ghost use Rattle.schedule.specs.Dates.{date_in};
@@ -17,7 +18,7 @@ const MOST_DATES: usize = 73051;
 // ---- an argument
 
 // A date by its number, year × 10,000 + month × 100 + day; or anything else.
-#[derive(Drop)]
+#[derive(Clone, Copy)]
 pub enum Argument {
     Number(u32),
     Otherwise,
@@ -36,7 +37,7 @@ fn is_digit(c: u8) -> bool
 // Whether the character at a place is one that a date has there.
 fn is_placed(argument: &[u8], i: usize) -> bool
     requires { i < length argument.now }
-    ensures { result ≡ placed (before argument) i }
+    ensures { result ≡ placed argument.now i }
 {
     if i == 4 {
         return argument[i] == 45;
@@ -49,7 +50,7 @@ fn is_placed(argument: &[u8], i: usize) -> bool
 
 // Whether an argument has the form of a date.
 fn is_formed(argument: &[u8]) -> bool
-    ensures { result ≡ formed (before argument) }
+    ensures { result ≡ formed argument.now }
 {
     if argument.len() != 10 {
         return false;
@@ -75,14 +76,14 @@ fn digit(c: u8) -> u32
 // The number of two digits from a place on.
 fn two_at(argument: &[u8], i: usize) -> u32
     requires { Digits argument.now i }
-    ensures { (result ≡ two_at (before argument) i) × (result ≤ 99) }
+    ensures { (result ≡ two_at argument.now i) × (result ≤ 99) }
 {
     digit(argument[i]) * 10 + digit(argument[i + 1])
 }
 
 // What an argument says.
 pub fn said(argument: &[u8]) -> Argument
-    ensures { result ≡ said_by (before argument) }
+    ensures { result ≡ said_by argument.now }
 {
     if !is_formed(argument) {
         return Argument::Otherwise;
@@ -97,9 +98,9 @@ pub fn said(argument: &[u8]) -> Argument
 // Writes the page for the election day and the holidays behind it, by their numbers, and answers its length. What lies behind it is
 // unchanged. With no number it is the page of day 0 of month 0, which does not exist.
 pub fn put_page(numbers: &[u32], out: &mut [u8; LONGEST_PAGE]) -> usize
-    ensures output { let page = schedule_page (date_in (item (before numbers) 0)) (drop 1 (before numbers)) in
-        after out ≡ in_front page (before out) }
-    ensures answer { result ≡ length (schedule_page (date_in (item (before numbers) 0)) (drop 1 (before numbers))) }
+    ensures output { let page = schedule_page (date_in (item numbers.now 0)) (drop 1 numbers.now) in
+        out.new ≡ in_front page out.old }
+    ensures answer { result ≡ length (schedule_page (date_in (item numbers.now 0)) (drop 1 numbers.now)) }
 {
     if numbers.len() == 0 {
         return schedule::page::put_page(schedule::dates::date_in(0), numbers, out);
@@ -133,7 +134,7 @@ fn argument_at(i: usize) -> Argument {
 // Puts a number behind the first n, where there is room, and answers how many there are.
 fn put_number(numbers: &mut [u32], n: usize, number: u32) -> usize
     requires { n ≤ length numbers.old }
-    ensures { (result ≤ length (after numbers)) × (length (after numbers) ≡ length (before numbers)) }
+    ensures { (result ≤ length numbers.new) × (length numbers.new ≡ length numbers.old) }
 {
     if n < numbers.len() {
         numbers[n] = number;
@@ -144,7 +145,7 @@ fn put_number(numbers: &mut [u32], n: usize, number: u32) -> usize
 
 // Reads the arguments, and answers how many numbers there are: none where an argument is no date.
 fn read_numbers(numbers: &mut [u32]) -> usize
-    ensures { (result ≤ length (after numbers)) × (length (after numbers) ≡ length (before numbers)) }
+    ensures { (result ≤ length numbers.new) × (length numbers.new ≡ length numbers.old) }
 {
     let count = os::arg_count();
     let mut n: usize = 0;

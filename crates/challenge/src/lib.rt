@@ -1,6 +1,7 @@
 // The text Q of a throw of dice, and what is drawn from it: the mask of the compared lists, and each ballot's side.
+#![tactic(auto)]
+
 ghost use Rattle.std.specs.Prelude.{◌≡◌, ◌++◌, ◌+◌, ◌*◌, ◌%◌, ◌≤◌, ◌<◌, length};
-ghost use Rattle.laws.specs.Lent.{before, after};
 ghost use Rattle.laws.specs.Sums.{one_if};
 ghost use Rattle.laws.specs.Tests.{below};
 ghost use Rattle.laws.specs.Writing.{Went};
@@ -21,7 +22,7 @@ fn hex_digit(v: u8) -> u8
 // Writes the hexadecimal digits of s from a place on, and answers the next place.
 fn put_hex(out: &mut [u8], at: usize, s: &[u8]) -> usize
     requires { at + 2 * length s.now ≤ length out.old }
-    ensures { Went (before out) at (hex_digits (before s)) (after out) result }
+    ensures { Went out.old at (hex_digits s.now) out.new result }
 {
     let mut next = at;
     let mut i: usize = 0;
@@ -38,7 +39,7 @@ fn put_hex(out: &mut [u8], at: usize, s: &[u8]) -> usize
 // Q of the dice, from the sponge that has taken every record byte before the dice command.
 pub fn text(dice: &[u8], prefix: sha3::Sponge) -> [u8; 86]
     requires { (length dice.now ≡ 30) × (prefix.fill < 144) }
-    ensures { result ≡ text_from (before dice) prefix }
+    ensures { result ≡ text_from dice.now prefix }
 {
     let mut hash = [0u8; 28];
     sha3::finish(prefix, 144, &mut hash);
@@ -51,7 +52,7 @@ pub fn text(dice: &[u8], prefix: sha3::Sponge) -> [u8; 86]
 // Q of the dice, where the record before the dice command lies in two parts.
 pub fn text_of(dice: &[u8], one: &[u8], two: &[u8]) -> [u8; 86]
     requires { length dice.now ≡ 30 }
-    ensures { result ≡ challenge (before dice) (before one ++ before two) }
+    ensures { result ≡ challenge dice.now (one.now ++ two.now) }
 {
     let s = sha3::absorb(sha3::start(), 144, one);
     let t = sha3::absorb(s, 144, two);
@@ -60,7 +61,7 @@ pub fn text_of(dice: &[u8], one: &[u8], two: &[u8]) -> [u8; 86]
 
 // The hash of a number in decimal, Q and a last character.
 fn draw_hash(i: u32, q: &[u8], last: u8, out: &mut [u8; 28])
-    ensures { after out ≡ draw_hash i (before q) last }
+    ensures { out.new ≡ draw_hash i q.now last }
 {
     let mut number = [0u8; 10];
     let n = decimals::put_decimal(&mut number, 0, i);
@@ -71,7 +72,7 @@ fn draw_hash(i: u32, q: &[u8], last: u8, out: &mut [u8; 28])
 // 1 where list i is chosen, the first of so many lists of which some are left to choose, and else 0.
 fn list_chosen(q: &[u8], i: u32, lists: u32, left: u32) -> u32
     requires { 0 < lists }
-    ensures { (result ≡ one_if (below (list_hash (before q) i % lists) left)) × ((result < 2) × (result ≤ left)) }
+    ensures { (result ≡ one_if (below (list_hash q.now i % lists) left)) × ((result < 2) × (result ≤ left)) }
 {
     let mut hash = [0u8; 28];
     draw_hash(i, q, b'2', &mut hash);
@@ -85,7 +86,7 @@ fn list_chosen(q: &[u8], i: u32, lists: u32, left: u32) -> u32
 // The mask drawn from the first Q: so many lists are compared, of twice as many.
 pub fn drawn_mask(q: &[u8], compared: usize) -> u32
     requires { compared ≤ 12 }
-    ensures { (result ≡ drawn_mask compared (before q)) × (result < 16777216) }
+    ensures { (result ≡ drawn_mask compared q.now) × (result < 16777216) }
 {
     let mut left = compared as u32;
     let lists = 2 * left;
@@ -103,7 +104,7 @@ pub fn drawn_mask(q: &[u8], compared: usize) -> u32
 // The side of a ballot drawn from the second Q.
 pub fn drawn_side(q: &[u8], ballot: usize) -> u32
     requires { ballot < 4096 }
-    ensures { (result ≡ drawn_side (before q) ballot) × (result < 2) }
+    ensures { (result ≡ drawn_side q.now ballot) × (result < 2) }
 {
     let mut hash = [0u8; 28];
     draw_hash((ballot + 1) as u32, q, b'1', &mut hash);

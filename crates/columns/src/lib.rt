@@ -1,7 +1,8 @@
 // The servers of one column: a row server's work, row three's offsets, and the split behind the third column. A row server is lent its
 // own row, its offsets and the permutation only.
+#![tactic(auto)]
+
 ghost use Rattle.std.specs.Prelude.{[], ◌≡◌, ◌+◌, ◌<◌, length};
-ghost use Rattle.laws.specs.Lent.{before, after};
 ghost use Rattle.protocol.specs.Columns.{row_server, third_offsets, second_halves, row_refusal, pair_refusal};
 ghost use Rattle.protocol.specs.Answers.{written_answer, answer_of};
 ghost use Rattle.protocol.specs.Refusals.{afterwards};
@@ -12,7 +13,7 @@ use protocol::Written;
 // Adds the offsets to a row and takes place i from place perm(i).
 fn mix_row(modulus: u32, numbers: &[u32], offsets: &[u32], permutation: &[u16], out: &mut [u32])
     requires { RowReady modulus numbers.now offsets.now permutation.now (length out.old) }
-    ensures { after out ≡ row_server modulus (before numbers) (before offsets) (before permutation) }
+    ensures { out.new ≡ row_server modulus numbers.now offsets.now permutation.now }
 {
     let n = numbers.len();
     let mut i: usize = 0;
@@ -26,7 +27,7 @@ fn mix_row(modulus: u32, numbers: &[u32], offsets: &[u32], permutation: &[u16], 
 // Row three's offset at each place: with those of rows one and two it makes 0.
 fn third_row(modulus: u32, first: &[u32], second: &[u32], out: &mut [u32])
     requires { PairReady modulus first.now second.now (length out.old) }
-    ensures { after out ≡ third_offsets modulus (before first) (before second) }
+    ensures { out.new ≡ third_offsets modulus first.now second.now }
 {
     let n = first.len();
     let mut i: usize = 0;
@@ -39,7 +40,7 @@ fn third_row(modulus: u32, first: &[u32], second: &[u32], out: &mut [u32])
 // The second halves of a row: each number less its first half.
 fn split_row(modulus: u32, numbers: &[u32], first_halves: &[u32], out: &mut [u32])
     requires { PairReady modulus numbers.now first_halves.now (length out.old) }
-    ensures { after out ≡ second_halves modulus (before numbers) (before first_halves) }
+    ensures { out.new ≡ second_halves modulus numbers.now first_halves.now }
 {
     let n = numbers.len();
     let mut i: usize = 0;
@@ -58,7 +59,7 @@ fn refuse_row(
     permutation: &[u16],
     out_len: usize,
 ) -> u32
-    ensures { result ≡ row_refusal modulus n (before numbers) (before offsets) (before permutation) out_len }
+    ensures { result ≡ row_refusal modulus n numbers.now offsets.now permutation.now out_len }
 {
     if !limits::modulus_in_limits(modulus) {
         return 3;
@@ -92,7 +93,7 @@ fn refuse_row(
 
 // What the other two refuse, by number.
 fn refuse_pair(modulus: u32, n: usize, first: &[u32], second: &[u32], out_len: usize) -> u32
-    ensures { result ≡ pair_refusal modulus n (before first) (before second) out_len }
+    ensures { result ≡ pair_refusal modulus n first.now second.now out_len }
 {
     if !limits::modulus_in_limits(modulus) {
         return 3;
@@ -127,9 +128,9 @@ pub fn row_server(
     permutation: &[u16],
     out: &mut [u32],
 ) -> Written
-    ensures { let k = row_refusal modulus n (before numbers) (before offsets) (before permutation) (length (before out)) in
-        let mixed = row_server modulus (before numbers) (before offsets) (before permutation) in
-        (written_answer result ≡ answer_of k []) × (after out ≡ afterwards k (before out) mixed) }
+    ensures { let k = row_refusal modulus n numbers.now offsets.now permutation.now (length out.old) in
+        let mixed = row_server modulus numbers.now offsets.now permutation.now in
+        (written_answer result ≡ answer_of k []) × (out.new ≡ afterwards k out.old mixed) }
 {
     let k = refuse_row(
         modulus,
@@ -154,9 +155,9 @@ pub fn third_row_offsets(
     second: &[u32],
     out: &mut [u32],
 ) -> Written
-    ensures { let k = pair_refusal modulus n (before first) (before second) (length (before out)) in
-        let offsets = third_offsets modulus (before first) (before second) in
-        (written_answer result ≡ answer_of k []) × (after out ≡ afterwards k (before out) offsets) }
+    ensures { let k = pair_refusal modulus n first.now second.now (length out.old) in
+        let offsets = third_offsets modulus first.now second.now in
+        (written_answer result ≡ answer_of k []) × (out.new ≡ afterwards k out.old offsets) }
 {
     let k = refuse_pair(modulus, n as usize, first, second, out.len());
     if k != 0 {
@@ -174,9 +175,9 @@ pub fn split(
     first_halves: &[u32],
     out: &mut [u32],
 ) -> Written
-    ensures { let k = pair_refusal modulus n (before numbers) (before first_halves) (length (before out)) in
-        let halves = second_halves modulus (before numbers) (before first_halves) in
-        (written_answer result ≡ answer_of k []) × (after out ≡ afterwards k (before out) halves) }
+    ensures { let k = pair_refusal modulus n numbers.now first_halves.now (length out.old) in
+        let halves = second_halves modulus numbers.now first_halves.now in
+        (written_answer result ≡ answer_of k []) × (out.new ≡ afterwards k out.old halves) }
 {
     let k = refuse_pair(modulus, n as usize, numbers, first_halves, out.len());
     if k != 0 {

@@ -1,8 +1,9 @@
 // Writers of single commands. Each writes its command's bytes from a place of a lent buffer on, and answers the next place.
+#![tactic(auto)]
+
 ghost use Rattle.std.specs.Prelude.{◌≡◌, [], ◌∷◌, ◌++◌, ℕ, ◌+◌, ◌*◌, ◌≤◌, ◌<◌, length};
 ghost use Rattle.laws.specs.Bytes.{bytes};
 ghost use Rattle.laws.specs.Chunks.{chunks};
-ghost use Rattle.laws.specs.Lent.{before, after};
 ghost use Rattle.laws.specs.Writing.{Went};
 ghost use Rattle.protocol.specs.declared.Place.TheVariants.{InBallot, InEntry};
 ghost use Rattle.protocol.specs.Terms.{commitment};
@@ -24,7 +25,7 @@ fn put_six_commitments(
     keys: &[u8],
 ) -> usize
     requires { (length keys.now ≡ 192) × (at + 192 ≤ length out.old) }
-    ensures { Went (before out) at (chunks (λ q. commitment p (in_slot place q) (opening_of six (before keys) q)) 6) (after out) result }
+    ensures { Went out.old at (chunks (λ q. commitment p (in_slot place q) (opening_of six keys.now q)) 6) out.new result }
 {
     let mut next = at;
     let mut q: usize = 0;
@@ -49,7 +50,7 @@ fn put_openings(
     keys: &[u8],
 ) -> usize
     requires { (length keys.now ≡ 192) × ((at + count * 36 ≤ length out.old) × ((k : ℕ) → k < count → step * k + from < 6)) }
-    ensures { Went (before out) at (chunks (λ k. opening_of six (before keys) (step * k + from)) count) (after out) result }
+    ensures { Went out.old at (chunks (λ k. opening_of six keys.now (step * k + from)) count) out.new result }
 {
     let mut next = at;
     let mut k: usize = 0;
@@ -66,7 +67,7 @@ fn put_openings(
 // All six openings.
 fn put_six_openings(out: &mut [u8], at: usize, six: [u32; 6], keys: &[u8]) -> usize
     requires { (length keys.now ≡ 192) × (at + 216 ≤ length out.old) }
-    ensures { Went (before out) at (chunks (opening_of six (before keys)) 6) (after out) result }
+    ensures { Went out.old at (chunks (opening_of six keys.now) 6) out.new result }
 {
     put_openings(out, at, 0, 1, 6, six, keys)
 }
@@ -74,7 +75,7 @@ fn put_six_openings(out: &mut [u8], at: usize, six: [u32; 6], keys: &[u8]) -> us
 // The three openings of one side.
 fn put_three_openings(out: &mut [u8], at: usize, side: usize, six: [u32; 6], keys: &[u8]) -> usize
     requires { (side ≤ 1) × ((length keys.now ≡ 192) × (at + 108 ≤ length out.old)) }
-    ensures { Went (before out) at (chunks (λ k. opening_of six (before keys) (2 * k + side)) 3) (after out) result }
+    ensures { Went out.old at (chunks (λ k. opening_of six keys.now (2 * k + side)) 3) out.new result }
 {
     put_openings(out, at, side, 2, 3, six, keys)
 }
@@ -82,7 +83,7 @@ fn put_three_openings(out: &mut [u8], at: usize, side: usize, six: [u32; 6], key
 // The beginning of a command that names a list: its code, the list, and a position or a ballot.
 fn put_head(out: &mut [u8], at: usize, code: u32, l: u32, i: u32) -> usize
     requires { (code < 256) × (at + 4 ≤ length out.old) }
-    ensures { Went (before out) at ((code ∷ bytes 1 l) ++ bytes 2 i) (after out) result }
+    ensures { Went out.old at ((code ∷ bytes 1 l) ++ bytes 2 i) out.new result }
 {
     let a = wire::put1(out, at, code);
     let b = wire::put1(out, a, l);
@@ -92,7 +93,7 @@ fn put_head(out: &mut [u8], at: usize, code: u32, l: u32, i: u32) -> usize
 // The first command's byte, and behind 0C the election's number.
 fn put_form(out: &mut [u8], at: usize, form: Form) -> usize
     requires { at + (1 + number_width form) ≤ length out.old }
-    ensures { Went (before out) at (form_bytes form) (after out) result }
+    ensures { Went out.old at (form_bytes form) out.new result }
 {
     match form {
         Form::Unnumbered => wire::put1(out, at, 0x01),
@@ -106,7 +107,7 @@ fn put_form(out: &mut [u8], at: usize, form: Form) -> usize
 // 01 or 0C: the parameters.
 pub fn put_first(out: &mut [u8], at: usize, p: Parameters) -> usize
     requires { (p.ballots < 65536) × ((p.compared < 256) × (at + first_width p ≤ length out.old)) }
-    ensures { Went (before out) at (first_command p) (after out) result }
+    ensures { Went out.old at (first_command p) out.new result }
 {
     let form = p.form;
     let a = put_form(out, at, form);
@@ -125,8 +126,8 @@ pub fn put_ballot(
     keys: &[u8],
 ) -> usize
     requires { (length keys.now ≡ 192) × (at + 197 ≤ length out.old) }
-    ensures { let command = ballot_command id (λ q. commitment p (InBallot id q) (opening_of six (before keys) q)) in
-        Went (before out) at command (after out) result }
+    ensures { let command = ballot_command id (λ q. commitment p (InBallot id q) (opening_of six keys.now q)) in
+        Went out.old at command out.new result }
 {
     let a = wire::put1(out, at, 2);
     let b = wire::put4(out, a, id);
@@ -144,8 +145,8 @@ pub fn put_entry(
     keys: &[u8],
 ) -> usize
     requires { (length keys.now ≡ 192) × (at + 196 ≤ length out.old) }
-    ensures { let command = entry_command l i (λ q. commitment p (InEntry l i q) (opening_of six (before keys) q)) in
-        Went (before out) at command (after out) result }
+    ensures { let command = entry_command l i (λ q. commitment p (InEntry l i q) (opening_of six keys.now q)) in
+        Went out.old at command out.new result }
 {
     let a = put_head(out, at, 3, l, i);
     let place = Place::InEntry(l as usize, i as usize, 0);
@@ -155,7 +156,7 @@ pub fn put_entry(
 // 04: the first dice and the mask.
 pub fn put_first_dice(out: &mut [u8], at: usize, dice: &[u8], mask: u32) -> usize
     requires { (length dice.now ≡ 30) × (at + 35 ≤ length out.old) }
-    ensures { Went (before out) at (first_dice_command (before dice) mask) (after out) result }
+    ensures { Went out.old at (first_dice_command dice.now mask) out.new result }
 {
     let a = wire::put1(out, at, 4);
     let b = wire::copy(out, a, dice);
@@ -165,7 +166,7 @@ pub fn put_first_dice(out: &mut [u8], at: usize, dice: &[u8], mask: u32) -> usiz
 // 05: a link.
 pub fn put_link(out: &mut [u8], at: usize, l: u32, j: u32, position: u32, t: u32) -> usize
     requires { at + 10 ≤ length out.old }
-    ensures { Went (before out) at (link_command l j position t) (after out) result }
+    ensures { Went out.old at (link_command l j position t) out.new result }
 {
     let a = put_head(out, at, 5, l, j);
     let b = wire::put2(out, a, position);
@@ -175,7 +176,7 @@ pub fn put_link(out: &mut [u8], at: usize, l: u32, j: u32, position: u32, t: u32
 // 06: the second dice.
 pub fn put_second_dice(out: &mut [u8], at: usize, dice: &[u8]) -> usize
     requires { (length dice.now ≡ 30) × (at + 31 ≤ length out.old) }
-    ensures { Went (before out) at (second_dice_command (before dice)) (after out) result }
+    ensures { Went out.old at (second_dice_command dice.now) out.new result }
 {
     let a = wire::put1(out, at, 6);
     wire::copy(out, a, dice)
@@ -191,7 +192,7 @@ pub fn put_ballot_half(
     keys: &[u8],
 ) -> usize
     requires { (side ≤ 1) × ((length keys.now ≡ 192) × (at + 112 ≤ length out.old)) }
-    ensures { Went (before out) at (ballot_half_command j side (λ k. opening_of six (before keys) (2 * k + side))) (after out) result }
+    ensures { Went out.old at (ballot_half_command j side (λ k. opening_of six keys.now (2 * k + side))) out.new result }
 {
     let a = wire::put1(out, at, 7);
     let b = wire::put2(out, a, j);
@@ -210,7 +211,7 @@ pub fn put_list_half(
     keys: &[u8],
 ) -> usize
     requires { (side ≤ 1) × ((length keys.now ≡ 192) × (at + 112 ≤ length out.old)) }
-    ensures { Went (before out) at (list_half_command l position (λ k. opening_of six (before keys) (2 * k + side))) (after out) result }
+    ensures { Went out.old at (list_half_command l position (λ k. opening_of six keys.now (2 * k + side))) out.new result }
 {
     let a = put_head(out, at, 8, l, position);
     put_three_openings(out, a, side as usize, six, keys)
@@ -219,7 +220,7 @@ pub fn put_list_half(
 // 09: an announced vote.
 pub fn put_vote(out: &mut [u8], at: usize, i: u32, vote: u32) -> usize
     requires { at + 7 ≤ length out.old }
-    ensures { Went (before out) at (vote_command i vote) (after out) result }
+    ensures { Went out.old at (vote_command i vote) out.new result }
 {
     let a = wire::put1(out, at, 9);
     let b = wire::put2(out, a, i);
@@ -229,7 +230,7 @@ pub fn put_vote(out: &mut [u8], at: usize, i: u32, vote: u32) -> usize
 // 0A: a full opening.
 pub fn put_full(out: &mut [u8], at: usize, l: u32, i: u32, six: [u32; 6], keys: &[u8]) -> usize
     requires { (length keys.now ≡ 192) × (at + 220 ≤ length out.old) }
-    ensures { Went (before out) at (full_command l i (opening_of six (before keys))) (after out) result }
+    ensures { Went out.old at (full_command l i (opening_of six keys.now)) out.new result }
 {
     let a = put_head(out, at, 10, l, i);
     put_six_openings(out, a, six, keys)
@@ -238,7 +239,7 @@ pub fn put_full(out: &mut [u8], at: usize, l: u32, i: u32, six: [u32; 6], keys: 
 // 0B: the end.
 pub fn put_end(out: &mut [u8], at: usize) -> usize
     requires { at + 1 ≤ length out.old }
-    ensures { Went (before out) at (11 ∷ []) (after out) result }
+    ensures { Went out.old at (11 ∷ []) out.new result }
 {
     wire::put1(out, at, 11)
 }

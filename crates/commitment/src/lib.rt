@@ -1,8 +1,9 @@
 // Openings and commitments: written from a key and a number, and checked in a record.
+#![tactic(auto)]
+
 ghost use Rattle.std.specs.Prelude.{◌≡◌, ◌++◌, ◌+◌, ◌≤◌, length};
 ghost use Rattle.laws.specs.Bytes.{bytes};
 ghost use Rattle.laws.specs.Chunks.{piece};
-ghost use Rattle.laws.specs.Lent.{before, after};
 ghost use Rattle.laws.specs.Writing.{Went};
 ghost use Rattle.sha3.specs.Word.{word_at, ended};
 ghost use Rattle.protocol.specs.Terms.{opening, place_bytes, commitment};
@@ -25,7 +26,7 @@ pub fn in_slot(place: Place, q: usize) -> Place
 // The bytes that tell where a commitment is posted: the slot, the list or 255 for a ballot, the position or the ballot's id.
 fn put_told(out: &mut [u8], at: usize, slot: usize, list: u32, x: u32) -> usize
     requires { at + 6 ≤ length out.old }
-    ensures { Went (before out) at ((bytes 1 slot ++ bytes 1 list) ++ bytes 4 x) (after out) result }
+    ensures { Went out.old at ((bytes 1 slot ++ bytes 1 list) ++ bytes 4 x) out.new result }
 {
     let a = wire::put1(out, at, (slot % 256) as u32);
     let b = wire::put1(out, a, list);
@@ -35,7 +36,7 @@ fn put_told(out: &mut [u8], at: usize, slot: usize, list: u32, x: u32) -> usize
 // .. of a place.
 fn put_place(out: &mut [u8], at: usize, place: Place) -> usize
     requires { at + 6 ≤ length out.old }
-    ensures { Went (before out) at (place_bytes place) (after out) result }
+    ensures { Went out.old at (place_bytes place) out.new result }
 {
     match place {
         Place::InBallot(id, q) => put_told(out, at, q, 255, id),
@@ -44,7 +45,7 @@ fn put_place(out: &mut [u8], at: usize, place: Place) -> usize
 }
 
 // What is hashed behind the key, with the end of a message, as the two lanes that it fills.
-#[derive(Drop)]
+#[derive(Clone, Copy)]
 struct Tail {
     low: u64,
     high: u64,
@@ -90,7 +91,7 @@ fn tail_of(form: Form, place: Place, x: u32) -> Tail
 // Whether an opening gives the commitment posted in a place; both lie in the bytes.
 pub fn gives(p: Parameters, place: Place, bytes: &[u8], opening_at: usize, posted_at: usize) -> bool
     requires { (opening_at + 36 ≤ length bytes.now) × (posted_at + 32 ≤ length bytes.now) }
-    ensures { result ≡ rules.gives p place (piece (before bytes) opening_at 36) (piece (before bytes) posted_at 32) }
+    ensures { result ≡ rules.gives p place (piece bytes.now opening_at 36) (piece bytes.now posted_at 32) }
 {
     let key_end = opening_at + 32;
     let x = wire::read4(bytes, key_end);
@@ -103,7 +104,7 @@ pub fn gives(p: Parameters, place: Place, bytes: &[u8], opening_at: usize, poste
 // Writes the opening of a key and a number at a place, and answers the next place.
 pub fn put_opening(out: &mut [u8], at: usize, key: &[u8], x: u32) -> usize
     requires { (length key.now ≡ 32) × (at + 36 ≤ length out.old) }
-    ensures { Went (before out) at (opening (before key) x) (after out) result }
+    ensures { Went out.old at (opening key.now x) out.new result }
 {
     sha3::copy_key(out, at, key);
     wire::put4(out, at + 32, x)
@@ -120,7 +121,7 @@ pub fn put_commitment(
     x: u32,
 ) -> usize
     requires { (length key.now ≡ 32) × (at + 32 ≤ length out.old) }
-    ensures { Went (before out) at (commitment p place (opening (before key) x)) (after out) result }
+    ensures { Went out.old at (commitment p place (opening key.now x)) out.new result }
 {
     let form = p.form;
     let t = tail_of(form, place, x);

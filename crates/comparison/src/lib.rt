@@ -1,7 +1,8 @@
 // Part two of a record, commands 04 and 05: the first dice with the mask, and the links of all ballots to every compared list.
+#![tactic(auto)]
+
 ghost use Rattle.std.specs.Prelude.{◌≡◌, true, [], ◌+◌, ◌*◌, ◌≤◌, ◌<◌, length};
 ghost use Rattle.laws.specs.Chunks.{chunks};
-ghost use Rattle.laws.specs.Lent.{before, after};
 ghost use Rattle.laws.specs.Masks.{bit};
 ghost use Rattle.laws.specs.Tests.{choose};
 ghost use Rattle.laws.specs.Writing.{Went};
@@ -36,8 +37,8 @@ fn put_links(
 ) -> usize
     requires { let s = given p ids.now votes.now numbers.now permutations.now keys.now in
         Passed s × ((l < layout.lists p) × (PlacesOf s l places.now × (at + p.ballots * 10 ≤ length out.old))) }
-    ensures { let s = inputs_of (given p (before ids) (before votes) (before numbers) (before permutations) (before keys)) in
-        Went (before out) at (chunks (λ j. link_command l j (link_position s l j) (link_shift s l j)) p.ballots) (after out) result }
+    ensures { let s = inputs_of (given p ids.now votes.now numbers.now permutations.now keys.now) in
+        Went out.old at (chunks (λ j. link_command l j (link_position s l j) (link_shift s l j)) p.ballots) out.new result }
 {
     let n = p.ballots;
     let mut next = at;
@@ -66,8 +67,8 @@ fn put_list_in(
 ) -> usize
     requires { let s = given p ids.now votes.now numbers.now permutations.now keys.now in
         Passed s × ((l < layout.lists p) × ((length places.old ≡ p.ballots) × (at + p.ballots * 10 ≤ length out.old))) }
-    ensures { let s = inputs_of (given p (before ids) (before votes) (before numbers) (before permutations) (before keys)) in
-        Went (before out) at (chunks (λ j. link_command l j (link_position s l j) (link_shift s l j)) p.ballots) (after out) result }
+    ensures { let s = inputs_of (given p ids.now votes.now numbers.now permutations.now keys.now) in
+        Went out.old at (chunks (λ j. link_command l j (link_position s l j) (link_shift s l j)) p.ballots) out.new result }
 {
     mixing::fill_places(p, permutations, l, places);
     put_links(
@@ -98,8 +99,8 @@ fn put_list(
 ) -> usize
     requires { let s = given p ids.now votes.now numbers.now permutations.now keys.now in
         Passed s × ((l < layout.lists p) × (at + p.ballots * 10 ≤ length out.old)) }
-    ensures { let s = inputs_of (given p (before ids) (before votes) (before numbers) (before permutations) (before keys)) in
-        Went (before out) at (chunks (λ j. link_command l j (link_position s l j) (link_shift s l j)) p.ballots) (after out) result }
+    ensures { let s = inputs_of (given p ids.now votes.now numbers.now permutations.now keys.now) in
+        Went out.old at (chunks (λ j. link_command l j (link_position s l j) (link_shift s l j)) p.ballots) out.new result }
 {
     let n = p.ballots;
     let mut places = [0u16; MOST_BALLOTS];
@@ -132,9 +133,9 @@ fn put_if_compared(
 ) -> usize
     requires { let s = given p ids.now votes.now numbers.now permutations.now keys.now in
         Passed s × ((l < layout.lists p) × (at + bit mask l * (p.ballots * 10) ≤ length out.old)) }
-    ensures { let s = inputs_of (given p (before ids) (before votes) (before numbers) (before permutations) (before keys)) in
+    ensures { let s = inputs_of (given p ids.now votes.now numbers.now permutations.now keys.now) in
         let links = chunks (λ j. link_command l j (link_position s l j) (link_shift s l j)) p.ballots in
-        Went (before out) at (choose (bit mask l) [] links) (after out) result }
+        Went out.old at (choose (bit mask l) [] links) out.new result }
 {
     if (mask >> (l as u32)) % 2 == 0 {
         return at;
@@ -156,12 +157,12 @@ fn put_compared(
 ) -> usize
     requires { let s = given p ids.now votes.now numbers.now permutations.now keys.now in
         Passed s × ((right_shape p.compared mask ≡ true) × (at + p.compared * (p.ballots * 10) ≤ length out.old)) }
-    ensures { let s = inputs_of (given p (before ids) (before votes) (before numbers) (before permutations) (before keys)) in
+    ensures { let s = inputs_of (given p ids.now votes.now numbers.now permutations.now keys.now) in
         let n = p.ballots in
         let lists = layout.lists p in
-        Went (before out) at
+        Went out.old at
         (chunks (λ l. choose (bit mask l) [] (chunks (λ j. link_command l j (link_position s l j) (link_shift s l j)) n)) lists)
-        (after out) result }
+        out.new result }
 {
     let lists = 2 * p.compared;
     let mut next = at;
@@ -198,8 +199,8 @@ pub fn write(
 )
     requires { let s = given p ids.now votes.now numbers.now permutations.now keys.now in
         Passed s × ((length dice.now ≡ 30) × ((right_shape p.compared mask ≡ true) × (length out.old ≡ layout.part_two_length p))) }
-    ensures { let s = given p (before ids) (before votes) (before numbers) (before permutations) (before keys) in
-        after out ≡ second_part s (before dice) mask }
+    ensures { let s = given p ids.now votes.now numbers.now permutations.now keys.now in
+        out.new ≡ second_part s dice.now mask }
 {
     let next = commands::put_first_dice(out, 0, dice, mask);
     put_compared(out, next, p, ids, votes, numbers, permutations, keys, mask);
@@ -221,9 +222,9 @@ pub fn part_two(
     out: &mut [u8],
 ) -> Written
     ensures { let p = parameters form modulus ballots compared in
-        let s = given p (before ids) (before votes) (before numbers) (before permutations) (before keys) in
-        let k = part_two_refusal s (before dice) mask (length (before out)) in
-        (written_answer result ≡ answer_of k []) × (after out ≡ afterwards k (before out) (second_part s (before dice) mask)) }
+        let s = given p ids.now votes.now numbers.now permutations.now keys.now in
+        let k = part_two_refusal s dice.now mask (length out.old) in
+        (written_answer result ≡ answer_of k []) × (out.new ≡ afterwards k out.old (second_part s dice.now mask)) }
 {
     let p = Parameters {
         form,
@@ -252,7 +253,7 @@ pub fn part_two(
 // The mask drawn from the dice and part one as lent.
 pub fn mask_of(p: Parameters, dice: &[u8], one: &[u8]) -> u32
     requires { (p.compared ≤ 12) × (length dice.now ≡ 30) }
-    ensures { result ≡ drawn_mask p.compared (drawing.challenge (before dice) (before one)) }
+    ensures { result ≡ drawn_mask p.compared (drawing.challenge dice.now one.now) }
 {
     let text = challenge::text_of(dice, one, &one[..0]);
     challenge::drawn_mask(&text, p.compared)
@@ -274,10 +275,10 @@ pub fn part_two_drawn(
     out: &mut [u8],
 ) -> Written
     ensures { let p = parameters form modulus ballots compared in
-        let s = given p (before ids) (before votes) (before numbers) (before permutations) (before keys) in
-        let k = part_two_drawn_refusal s (before dice) (length (before one)) (length (before out)) in
-        let two = second_part s (before dice) (mask_for s (before dice) (before one)) in
-        (written_answer result ≡ answer_of k []) × (after out ≡ afterwards k (before out) two) }
+        let s = given p ids.now votes.now numbers.now permutations.now keys.now in
+        let k = part_two_drawn_refusal s dice.now (length one.now) (length out.old) in
+        let two = second_part s dice.now (mask_for s dice.now one.now) in
+        (written_answer result ≡ answer_of k []) × (out.new ≡ afterwards k out.old two) }
 {
     let p = Parameters {
         form,
@@ -306,7 +307,7 @@ pub fn part_two_drawn(
 
 // Entry: the mask that part two draws, so that it can be handed to part three.
 pub fn draw(form: Form, modulus: u32, ballots: u32, compared: u32, dice: &[u8], one: &[u8]) -> Draw
-    ensures { draw_answer result ≡ drawn (parameters form modulus ballots compared) (before dice) (before one) }
+    ensures { draw_answer result ≡ drawn (parameters form modulus ballots compared) dice.now one.now }
 {
     let p = Parameters {
         form,

@@ -1,7 +1,6 @@
 // Commands 07 and 08 of a record: the halves of all ballots, and behind each of them those of the entries linked to it.
 ghost use Rattle.std.specs.Prelude.{List, [], ℕ, ◌+◌, ◌*◌, ◌≤◌, ◌<◌, length};
 ghost use Rattle.laws.specs.Chunks.{chunks};
-ghost use Rattle.laws.specs.Lent.{before, after};
 ghost use Rattle.laws.specs.Masks.{bit};
 ghost use Rattle.laws.specs.Tests.{choose};
 ghost use Rattle.laws.specs.Writing.{Went};
@@ -35,10 +34,10 @@ fn put_if_compared(
     requires { let s = given p ids.now votes.now numbers.now permutations.now keys.now in
         Shaped s mask × (Placed s mask (lists p) places.now
         × ((l < lists p) × ((j < p.ballots) × ((side ≤ 1) × (at + bit mask l * 112 ≤ length out.old))))) }
-    ensures { let s = inputs_of (given p (before ids) (before votes) (before numbers) (before permutations) (before keys)) in
+    ensures { let s = inputs_of (given p ids.now votes.now numbers.now permutations.now keys.now) in
         let i = link_position s l j in
         let half = list_half_command l i (λ k. entry_opening s l i (2 * k + side)) in
-        Went (before out) at (choose (bit mask l) [] half) (after out) result }
+        Went out.old at (choose (bit mask l) [] half) out.new result }
 {
     if (mask >> (l as u32)) % 2 == 0 {
         return at;
@@ -69,10 +68,10 @@ fn put_linked(
     requires { let s = given p ids.now votes.now numbers.now permutations.now keys.now in
         Shaped s mask × (Placed s mask (lists p) places.now
         × ((j < p.ballots) × ((side ≤ 1) × (at + p.compared * 112 ≤ length out.old)))) }
-    ensures { let s = inputs_of (given p (before ids) (before votes) (before numbers) (before permutations) (before keys)) in
+    ensures { let s = inputs_of (given p ids.now votes.now numbers.now permutations.now keys.now) in
         let place : ℕ → ℕ = λ l. link_position s l j in
         let half : ℕ → List ℕ = λ l. list_half_command l (place l) (λ k. entry_opening s l (place l) (2 * k + side)) in
-        Went (before out) at (chunks (λ l. choose (bit mask l) [] (half l)) (lists p)) (after out) result }
+        Went out.old at (chunks (λ l. choose (bit mask l) [] (half l)) (lists p)) out.new result }
 {
     let lists = 2 * p.compared;
     let mut next = at;
@@ -116,9 +115,9 @@ fn put_halves_of(
     requires { let s = given p ids.now votes.now numbers.now permutations.now keys.now in
         Shaped s mask × (Placed s mask (lists p) places.now
         × ((j < p.ballots) × ((side ≤ 1) × (at + (p.compared + 1) * 112 ≤ length out.old)))) }
-    ensures { let s = inputs_of (given p (before ids) (before votes) (before numbers) (before permutations) (before keys)) in
+    ensures { let s = inputs_of (given p ids.now votes.now numbers.now permutations.now keys.now) in
         let d = posted_disclosure s [] (λ _. side) in
-        Went (before out) at (said.halves p mask (link_position s) d j) (after out) result }
+        Went out.old at (said.halves p mask (link_position s) d j) out.new result }
 {
     let from = KEYS_WIDTH * j;
     let to = from + KEYS_WIDTH;
@@ -157,9 +156,9 @@ fn put_with(
     requires { let s = given p ids.now votes.now numbers.now permutations.now keys.now in
         Shaped s mask × (Sided s sides.now × (Placed s mask (lists p) places.now
         × (at + p.ballots * ((p.compared + 1) * 112) ≤ length out.old))) }
-    ensures { let s = inputs_of (given p (before ids) (before votes) (before numbers) (before permutations) (before keys)) in
-        let d = posted_disclosure s [] (item (before sides)) in
-        Went (before out) at (chunks (said.halves p mask (link_position s) d) p.ballots) (after out) result }
+    ensures { let s = inputs_of (given p ids.now votes.now numbers.now permutations.now keys.now) in
+        let d = posted_disclosure s [] (item sides.now) in
+        Went out.old at (chunks (said.halves p mask (link_position s) d) p.ballots) out.new result }
 {
     let n = p.ballots;
     let mut next = at;
@@ -202,9 +201,9 @@ fn put_in(
     requires { let s = given p ids.now votes.now numbers.now permutations.now keys.now in
         Shaped s mask × (Sided s sides.now × ((p.compared * p.ballots ≤ length places.old)
         × (at + p.ballots * ((p.compared + 1) * 112) ≤ length out.old))) }
-    ensures { let s = inputs_of (given p (before ids) (before votes) (before numbers) (before permutations) (before keys)) in
-        let d = posted_disclosure s [] (item (before sides)) in
-        Went (before out) at (chunks (said.halves p mask (link_position s) d) p.ballots) (after out) result }
+    ensures { let s = inputs_of (given p ids.now votes.now numbers.now permutations.now keys.now) in
+        let d = posted_disclosure s [] (item sides.now) in
+        Went out.old at (chunks (said.halves p mask (link_position s) d) p.ballots) out.new result }
 {
     placing::place_all(p, ids, votes, numbers, permutations, keys, mask, places);
     put_with(
@@ -237,9 +236,9 @@ pub fn put_halves(
 ) -> usize
     requires { let s = given p ids.now votes.now numbers.now permutations.now keys.now in
         Shaped s mask × (Sided s sides.now × (at + p.ballots * ((p.compared + 1) * 112) ≤ length out.old)) }
-    ensures { let s = inputs_of (given p (before ids) (before votes) (before numbers) (before permutations) (before keys)) in
-        let d = posted_disclosure s [] (item (before sides)) in
-        Went (before out) at (chunks (said.halves p mask (link_position s) d) p.ballots) (after out) result }
+    ensures { let s = inputs_of (given p ids.now votes.now numbers.now permutations.now keys.now) in
+        let d = posted_disclosure s [] (item sides.now) in
+        Went out.old at (chunks (said.halves p mask (link_position s) d) p.ballots) out.new result }
 {
     let mut places = [0u16; 12 * MOST_BALLOTS];
     put_in(

@@ -1,12 +1,13 @@
 // Part three of a record, commands 06 to 0B: the second dice, the halves of all ballots and of the entries linked to them, the votes, the
 // full openings of the lists that are not compared, and the end.
+#![tactic(auto)]
+
 mod announced;
 mod halves;
 mod opened;
 mod placing;
 
 ghost use Rattle.std.specs.Prelude.{◌≡◌, [], ◌++◌, ◌≤◌, length};
-ghost use Rattle.laws.specs.Lent.{before, after};
 ghost use Rattle.protocol.specs.Terms.{parameters, most_ballots};
 ghost use Rattle.protocol.specs.Drawing as drawing;
 ghost use Rattle.protocol.specs.Drawing.{drawn_sides};
@@ -33,8 +34,8 @@ pub fn write(
 )
     requires { let s = given p ids.now votes.now numbers.now permutations.now keys.now in
         Writable s dice.now mask sides.now (length out.old) }
-    ensures { let s = given p (before ids) (before votes) (before numbers) (before permutations) (before keys) in
-        after out ≡ third_part s (before dice) mask (before sides) }
+    ensures { let s = given p ids.now votes.now numbers.now permutations.now keys.now in
+        out.new ≡ third_part s dice.now mask sides.now }
 {
     let a = commands::put_second_dice(out, 0, dice);
     let b = halves::put_halves(
@@ -57,7 +58,7 @@ pub fn write(
 // The sides drawn from the dice and parts one and two as lent.
 fn fill_sides(dice: &[u8], one: &[u8], two: &[u8], out: &mut [u8])
     requires { (length dice.now ≡ 30) × (length out.old ≤ most_ballots) }
-    ensures { after out ≡ drawn_sides (length (before out)) (drawing.challenge (before dice) (before one ++ before two)) }
+    ensures { out.new ≡ drawn_sides (length out.old) (drawing.challenge dice.now (one.now ++ two.now)) }
 {
     let text = challenge::text_of(dice, one, two);
     let mut j: usize = 0;
@@ -84,8 +85,8 @@ pub fn write_drawn(
 )
     requires { let s = given p ids.now votes.now numbers.now permutations.now keys.now in
         Drawable s dice.now mask (length out.old) × (length sides.old ≡ p.ballots) }
-    ensures { let s = given p (before ids) (before votes) (before numbers) (before permutations) (before keys) in
-        after out ≡ third_part s (before dice) mask (sides_for s (before dice) (before one) (before two)) }
+    ensures { let s = given p ids.now votes.now numbers.now permutations.now keys.now in
+        out.new ≡ third_part s dice.now mask (sides_for s dice.now one.now two.now) }
 {
     fill_sides(dice, one, two, sides);
     write(
@@ -119,9 +120,9 @@ pub fn part_three(
     out: &mut [u8],
 ) -> Written
     ensures { let p = parameters form modulus ballots compared in
-        let s = given p (before ids) (before votes) (before numbers) (before permutations) (before keys) in
-        let k = part_three_refusal s (before dice) mask (before sides) (length (before out)) in
-        (written_answer result ≡ answer_of k []) × (after out ≡ afterwards k (before out) (third_part s (before dice) mask (before sides))) }
+        let s = given p ids.now votes.now numbers.now permutations.now keys.now in
+        let k = part_three_refusal s dice.now mask sides.now (length out.old) in
+        (written_answer result ≡ answer_of k []) × (out.new ≡ afterwards k out.old (third_part s dice.now mask sides.now)) }
 {
     let p = Parameters {
         form,
@@ -177,10 +178,10 @@ pub fn part_three_drawn(
     out: &mut [u8],
 ) -> Written
     ensures { let p = parameters form modulus ballots compared in
-        let s = given p (before ids) (before votes) (before numbers) (before permutations) (before keys) in
-        let k = part_three_drawn_refusal s (before dice) mask (length (before one)) (length (before two)) (length (before out)) in
-        let part = third_part s (before dice) mask (sides_for s (before dice) (before one) (before two)) in
-        (written_answer result ≡ answer_of k []) × (after out ≡ afterwards k (before out) part) }
+        let s = given p ids.now votes.now numbers.now permutations.now keys.now in
+        let k = part_three_drawn_refusal s dice.now mask (length one.now) (length two.now) (length out.old) in
+        let part = third_part s dice.now mask (sides_for s dice.now one.now two.now) in
+        (written_answer result ≡ answer_of k []) × (out.new ≡ afterwards k out.old part) }
 {
     let p = Parameters {
         form,

@@ -1,7 +1,6 @@
 // Commands 0A of a record: the full openings of the lists that are not compared.
 ghost use Rattle.std.specs.Prelude.{List, [], ℕ, ◌+◌, ◌-◌, ◌*◌, ◌≤◌, ◌<◌, length};
 ghost use Rattle.laws.specs.Chunks.{chunks};
-ghost use Rattle.laws.specs.Lent.{before, after};
 ghost use Rattle.laws.specs.Masks.{bit};
 ghost use Rattle.laws.specs.Tests.{choose};
 ghost use Rattle.laws.specs.Writing.{Went};
@@ -28,8 +27,8 @@ fn put_full(
 ) -> usize
     requires { let s = given p ids.now votes.now numbers.now permutations.now keys.now in
         Passed s × ((l < lists p) × (at + p.ballots * 220 ≤ length out.old)) }
-    ensures { let s = inputs_of (given p (before ids) (before votes) (before numbers) (before permutations) (before keys)) in
-        Went (before out) at (chunks (λ i. full_command l i (entry_opening s l i)) p.ballots) (after out) result }
+    ensures { let s = inputs_of (given p ids.now votes.now numbers.now permutations.now keys.now) in
+        Went out.old at (chunks (λ i. full_command l i (entry_opening s l i)) p.ballots) out.new result }
 {
     let n = p.ballots;
     let mut next = at;
@@ -59,9 +58,9 @@ fn put_if_opened(
 ) -> usize
     requires { let s = given p ids.now votes.now numbers.now permutations.now keys.now in
         Passed s × ((l < lists p) × (at + (1 - bit mask l) * (p.ballots * 220) ≤ length out.old)) }
-    ensures { let s = inputs_of (given p (before ids) (before votes) (before numbers) (before permutations) (before keys)) in
+    ensures { let s = inputs_of (given p ids.now votes.now numbers.now permutations.now keys.now) in
         let full = chunks (λ i. full_command l i (entry_opening s l i)) p.ballots in
-        Went (before out) at (choose (bit mask l) full []) (after out) result }
+        Went out.old at (choose (bit mask l) full []) out.new result }
 {
     if (mask >> (l as u32)) % 2 != 0 {
         return at;
@@ -83,9 +82,9 @@ pub fn put_opened(
 ) -> usize
     requires { let s = given p ids.now votes.now numbers.now permutations.now keys.now in
         Shaped s mask × (at + p.compared * (p.ballots * 220) ≤ length out.old) }
-    ensures { let s = inputs_of (given p (before ids) (before votes) (before numbers) (before permutations) (before keys)) in
+    ensures { let s = inputs_of (given p ids.now votes.now numbers.now permutations.now keys.now) in
         let full : ℕ → List ℕ = λ l. chunks (λ i. full_command l i (entry_opening s l i)) p.ballots in
-        Went (before out) at (chunks (λ l. choose (bit mask l) (full l) []) (lists p)) (after out) result }
+        Went out.old at (chunks (λ l. choose (bit mask l) (full l) []) (lists p)) out.new result }
 {
     let lists = 2 * p.compared;
     let mut next = at;

@@ -1,6 +1,5 @@
 // The place of each ballot in the lists that are compared: halves are written ballot by ballot, and each ballot asks for it in every list.
 ghost use Rattle.std.specs.Prelude.{◌+◌, ◌*◌, ◌≤◌, ◌<◌, length};
-ghost use Rattle.laws.specs.Lent.{before, after};
 ghost use Rattle.protocol.specs.Layout.{lists};
 ghost use Rattle.protocol.specs.Inputs.{given};
 ghost use Rattle.disclosure.specs.Disclosed.{Shaped, Placed};
@@ -21,8 +20,8 @@ fn place_if_compared(
 )
     requires { let s = given p ids.now votes.now numbers.now permutations.now keys.now in
         Shaped s mask × ((l < lists p) × Placed s mask l places.old) }
-    ensures { let s = given p (before ids) (before votes) (before numbers) (before permutations) (before keys) in
-        Placed s mask (l + 1) (after places) }
+    ensures { let s = given p ids.now votes.now numbers.now permutations.now keys.now in
+        Placed s mask (l + 1) places.new }
 {
     if (mask >> (l as u32)) % 2 == 0 {
         return;
@@ -46,8 +45,8 @@ pub fn place_all(
 )
     requires { let s = given p ids.now votes.now numbers.now permutations.now keys.now in
         Shaped s mask × (p.compared * p.ballots ≤ length places.old) }
-    ensures { let s = given p (before ids) (before votes) (before numbers) (before permutations) (before keys) in
-        Placed s mask (lists p) (after places) }
+    ensures { let s = given p ids.now votes.now numbers.now permutations.now keys.now in
+        Placed s mask (lists p) places.new }
 {
     let lists = 2 * p.compared;
     let mut l: usize = 0;

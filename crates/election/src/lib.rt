@@ -1,7 +1,8 @@
 // The three calls of the servers and the judge as one election: what they are lent is tested first, then the parts are written, joined and
 // judged. Mask and sides are each given or drawn: where a switch says drawn, what is lent in their place is not looked at.
+#![tactic(auto)]
+
 ghost use Rattle.std.specs.Prelude.{◌≡◌, ◌++◌, ◌+◌, length};
-ghost use Rattle.laws.specs.Lent.{before, after};
 ghost use Rattle.protocol.specs.Terms.{parameters};
 ghost use Rattle.protocol.specs.Inputs.{given};
 ghost use Rattle.protocol.specs.Servers.{second_part, third_part};
@@ -12,7 +13,7 @@ ghost use Rattle.election.specs.Ready.{SecondReady, ThirdReady};
 use protocol::{Form, MOST_BALLOTS, Parameters, Verdict};
 
 // The answer of an election: the first refusal of what it is lent, or else the verdict on the joined record.
-#[derive(Drop)]
+#[derive(Clone, Copy)]
 pub enum Outcome {
     Refused(u32),
     Accepted,
@@ -35,9 +36,9 @@ fn write_second(
 ) -> u32
     requires { let s = given p ids.now votes.now numbers.now permutations.now keys.now in
         SecondReady s (choice_of mask_given mask) dice.now (length two.old) }
-    ensures { let s = given p (before ids) (before votes) (before numbers) (before permutations) (before keys) in
-        let used = mask_by s (choice_of mask_given mask) (before dice) (before one) in
-        (result ≡ used) × (after two ≡ second_part s (before dice) used) }
+    ensures { let s = given p ids.now votes.now numbers.now permutations.now keys.now in
+        let used = mask_by s (choice_of mask_given mask) dice.now one.now in
+        (result ≡ used) × (two.new ≡ second_part s dice.now used) }
 {
     if mask_given {
         comparison::write(p, ids, votes, numbers, permutations, keys, dice, mask, two);
@@ -66,9 +67,9 @@ fn write_third(
 )
     requires { let s = given p ids.now votes.now numbers.now permutations.now keys.now in
         ThirdReady s mask (choice_of sides_given sides.now) dice.now (length three.old) }
-    ensures { let s = given p (before ids) (before votes) (before numbers) (before permutations) (before keys) in
-        let used = sides_by s (choice_of sides_given (before sides)) (before dice) (before one) (before two) in
-        after three ≡ third_part s (before dice) mask used }
+    ensures { let s = given p ids.now votes.now numbers.now permutations.now keys.now in
+        let used = sides_by s (choice_of sides_given sides.now) dice.now one.now two.now in
+        three.new ≡ third_part s dice.now mask used }
 {
     if sides_given {
         disclosure::write(
@@ -106,7 +107,7 @@ fn write_third(
 // The three buffers, joined in order.
 fn join(one: &[u8], two: &[u8], three: &[u8], joined: &mut [u8])
     requires { length joined.old ≡ length one.now + length two.now + length three.now }
-    ensures { after joined ≡ before one ++ (before two ++ before three) }
+    ensures { joined.new ≡ one.now ++ (two.now ++ three.now) }
 {
     let a = wire::copy(joined, 0, one);
     let b = wire::copy(joined, a, two);
@@ -137,11 +138,11 @@ fn write(
         let bySides = choice_of sides_given sides.now in
         let k = election_refusal s byMask first_dice.now bySides second_dice.now in
         k (length one.old) (length two.old) (length three.old) (length joined.old) ≡ 0 }
-    ensures { let s = given p (before ids) (before votes) (before numbers) (before permutations) (before keys) in
+    ensures { let s = given p ids.now votes.now numbers.now permutations.now keys.now in
         let byMask = choice_of mask_given mask in
-        let bySides = choice_of sides_given (before sides) in
-        let e = lent s byMask (before first_dice) bySides (before second_dice) in
-        buffers (after one) (after two) (after three) (after joined) ≡ parts_of e }
+        let bySides = choice_of sides_given sides.now in
+        let e = lent s byMask first_dice.now bySides second_dice.now in
+        buffers one.new two.new three.new joined.new ≡ parts_of e }
 {
     board::write(p, ids, votes, numbers, permutations, keys, one);
     let used = write_second(
@@ -199,12 +200,12 @@ pub fn hold(
     joined: &mut [u8],
 ) -> Outcome
     ensures { let p = parameters form modulus ballots compared in
-        let s = given p (before ids) (before votes) (before numbers) (before permutations) (before keys) in
+        let s = given p ids.now votes.now numbers.now permutations.now keys.now in
         let byMask = choice_of mask_given mask in
-        let bySides = choice_of sides_given (before sides) in
-        let e = lent s byMask (before first_dice) bySides (before second_dice) in
-        let was = buffers (before one) (before two) (before three) (before joined) in
-        let is = buffers (after one) (after two) (after three) (after joined) in
+        let bySides = choice_of sides_given sides.now in
+        let e = lent s byMask first_dice.now bySides second_dice.now in
+        let was = buffers one.old two.old three.old joined.old in
+        let is = buffers one.new two.new three.new joined.new in
         Held e was is (outcome_answer result) }
 {
     let p = Parameters {

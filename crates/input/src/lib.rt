@@ -1,6 +1,7 @@
 // A record from standard input, for programs.
+#![tactic(auto)]
+
 ghost use Rattle.std.specs.Prelude.{length};
-ghost use Rattle.laws.specs.Lent.{after};
 ghost use Rattle.input.specs.Lengths.{Read};
 
 use libc::STDIN_FILENO;
@@ -9,7 +10,7 @@ use libc::STDIN_FILENO;
 pub const LONGEST_RECORD: usize = 65536;
 
 // So many bytes, or a standard input that cannot be read.
-#[derive(Drop)]
+#[derive(Clone, Copy)]
 pub enum Input {
     Bytes(usize),
     Unreadable,
@@ -17,7 +18,7 @@ pub enum Input {
 
 // Reads until the buffer is full or standard input ends.
 pub fn read_input(buf: &mut [u8]) -> Input
-    ensures { Read result (length (after buf)) }
+    ensures { Read result (length buf.new) }
 {
     let mut n: usize = 0;
     while n < buf.len() {

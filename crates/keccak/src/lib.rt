@@ -2,9 +2,10 @@
 //
 // Between the rounds six lanes are kept complemented, which saves most of the complements that chi asks for. The rounds work on five
 // rows of five lanes, and four rounds are written out: the compiler then keeps the lanes in registers and moves few of them.
+#![tactic(auto)]
+
 ghost use Rattle.std.specs.Prelude.{◌≡◌, ◌+◌, ◌*◌, ◌<◌, ◌≤◌};
 ghost use Rattle.std.specs.Int.Bits.{bit_xor};
-ghost use Rattle.laws.specs.Lent.{before, after};
 ghost use Rattle.keccak.specs.Keccak.{at, rotl, rotation_offsets, keccak_f};
 ghost use Rattle.keccak.specs.Rows.{numbers, row_at, flat, sides, summed, gathered, chi0_of, chi1_of, chi2_of, chi3_of, chi4_of, code_round, flipped};
 
@@ -288,7 +289,7 @@ fn permute(a: [u64; 25]) -> [u64; 25]
 
 // Keccak-f[1600], in place: callers then copy no state.
 pub fn permute_in_place(a: &mut [u64; 25])
-    ensures { after a ≡ keccak_f (before a) }
+    ensures { a.new ≡ keccak_f a.old }
 {
     let b = permute(*a);
     *a = b;

@@ -17,7 +17,6 @@ pub mod Chunks
 pub mod At
 pub mod Writing
 pub mod Spans
-pub mod Lent
 pub mod Marks
 pub mod Counting
 pub mod Subsets

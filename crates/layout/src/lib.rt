@@ -1,7 +1,8 @@
 // What places depend on, the parameters and the mask, and where each command of a record stands, worked out from them as document 01 lays
 // the record out.
+#![tactic(auto)]
+
 ghost use Rattle.std.specs.Prelude.{◌≡◌, ◌+◌, ◌-◌, ◌*◌, ◌≤◌, ◌<◌, length};
-ghost use Rattle.laws.specs.Lent.{before};
 ghost use Rattle.laws.specs.Masks.{set_before, clear_before};
 ghost use Rattle.protocol.specs.Terms.{most_ballots};
 ghost use Rattle.protocol.specs.Layout as places;
@@ -23,7 +24,7 @@ fn number_width(form: Form) -> usize
 // The first command's form.
 fn form(bytes: &[u8]) -> Form
     requires { 8 ≤ length bytes.now }
-    ensures { result ≡ form_of (before bytes) }
+    ensures { result ≡ form_of bytes.now }
 {
     if bytes[0] == 0x0C {
         return Form::Numbered(wire::read4(bytes, 1));
@@ -33,7 +34,7 @@ fn form(bytes: &[u8]) -> Form
 
 // The form that is due of a first command, which may be cut short: its byte tells, and no number is read.
 pub fn due_form(bytes: &[u8]) -> Form
-    ensures { places.first_code result ≡ places.first_code (form_of (before bytes)) }
+    ensures { places.first_code result ≡ places.first_code (form_of bytes.now) }
 {
     if bytes.len() == 0 {
         return Form::Unnumbered;
@@ -47,7 +48,7 @@ pub fn due_form(bytes: &[u8]) -> Form
 // The parameters that the first command says.
 pub fn parameters(bytes: &[u8]) -> Parameters
     requires { places.first_width (parameters_of bytes.now) ≤ length bytes.now }
-    ensures { result ≡ parameters_of (before bytes) }
+    ensures { result ≡ parameters_of bytes.now }
 {
     let form = form(bytes);
     let w = number_width(form);
@@ -107,7 +108,7 @@ pub fn at_first_dice(p: Parameters) -> usize
 // The mask, as it is posted.
 pub fn mask(p: Parameters, bytes: &[u8]) -> u32
     requires { Few p × (places.at_first_dice p + 35 ≤ length bytes.now) }
-    ensures { result ≡ mask_of p (before bytes) }
+    ensures { result ≡ mask_of p bytes.now }
 {
     wire::read4(bytes, at_first_dice(p) + 31)
 }

@@ -1,7 +1,8 @@
 // Tests of numbers and of slices of them, for judge and writers alike.
+#![tactic(auto)]
+
 ghost use Rattle.std.specs.Prelude.{◌≡◌, ◌+◌, ◌≤◌, length};
 ghost use Rattle.laws.specs.Chunks.{piece};
-ghost use Rattle.laws.specs.Lent.{before};
 ghost use Rattle.protocol.specs.Terms.{item, most_ballots, all_below, modulus_in_limits, ballots_in_limits, in_limits};
 ghost use Rattle.protocol.specs.Columns.{is_permutation};
 ghost use Rattle.protocol.specs.Rules.{fair_dice, right_shape};
@@ -43,7 +44,7 @@ pub fn in_limits(p: Parameters) -> bool
 
 // Whether every number of a slice is below a limit. It does not stop at the first that is not: so the compiler compares many at once.
 pub fn all_below(limit: u32, numbers: &[u32]) -> bool
-    ensures { result ≡ all_below limit (before numbers) }
+    ensures { result ≡ all_below limit numbers.now }
 {
     let mut all = true;
     let mut i: usize = 0;
@@ -57,7 +58,7 @@ pub fn all_below(limit: u32, numbers: &[u32]) -> bool
 // Whether n numbers are the places below n, each once. One mark is set for each.
 pub fn is_permutation(n: usize, permutation: &[u16]) -> bool
     requires { (length permutation.now ≡ n) × (n ≤ most_ballots) }
-    ensures { result ≡ is_permutation n (item (before permutation)) }
+    ensures { result ≡ is_permutation n (item permutation.now) }
 {
     let mut marks = [false; 4096];
     let mut i: usize = 0;
@@ -78,7 +79,7 @@ pub fn is_permutation(n: usize, permutation: &[u16]) -> bool
 // Whether 30 characters are '1' to '6'.
 pub fn fair_dice(bytes: &[u8], at: usize) -> bool
     requires { at + 30 ≤ length bytes.now }
-    ensures { result ≡ fair_dice (piece (before bytes) at 30) }
+    ensures { result ≡ fair_dice (piece bytes.now at 30) }
 {
     let mut i: usize = 0;
     while i < 30 {

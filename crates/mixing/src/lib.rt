@@ -1,8 +1,9 @@
 // The numbers of a ballot and of a list entry, out of the slices that the servers are handed. An entry is followed back through its three
 // permutations to its ballot, and the offsets met on the way are added: no row is kept.
+#![tactic(auto)]
+
 ghost use Rattle.std.specs.Prelude.{◌≡◌, [], ℕ, ◌+◌, ◌*◌, ◌≤◌, ◌<◌, length};
 ghost use Rattle.laws.specs.Bytes.{Below};
-ghost use Rattle.laws.specs.Lent.{before, after};
 ghost use Rattle.laws.specs.Modular.{minus};
 ghost use Rattle.protocol.specs.Terms.{item};
 ghost use Rattle.protocol.specs.Inputs.{inputs_of};
@@ -43,7 +44,7 @@ pub fn keys_at(p: Parameters, l: usize, i: usize) -> usize
 // Where column c of list l takes place i from.
 fn from(p: Parameters, permutations: &[u16], l: usize, c: usize, i: usize) -> usize
     requires { Places p permutations.now × (InList p l × ((c < 3) × (i < p.ballots))) }
-    ensures { let s = inputs_of (trail p [] [] (before permutations)) in
+    ensures { let s = inputs_of (trail p [] [] permutations.now) in
         (result ≡ s.permutation l c i) × (result < p.ballots) }
 {
     let at = place_at(p, l, c, i);
@@ -53,7 +54,7 @@ fn from(p: Parameters, permutations: &[u16], l: usize, c: usize, i: usize) -> us
 // The ballot that place i of list l holds.
 fn source(p: Parameters, permutations: &[u16], l: usize, i: usize) -> usize
     requires { Places p permutations.now × (InList p l × (i < p.ballots)) }
-    ensures { let s = inputs_of (trail p [] [] (before permutations)) in
+    ensures { let s = inputs_of (trail p [] [] permutations.now) in
         (result ≡ source_of s l i) × (result < p.ballots) }
 {
     let third = from(p, permutations, l, 2, i);
@@ -64,7 +65,7 @@ fn source(p: Parameters, permutations: &[u16], l: usize, i: usize) -> usize
 // Share k of ballot j.
 fn ballot_share(p: Parameters, votes: &[u32], numbers: &[u32], k: usize, j: usize) -> u32
     requires { Votes p votes.now × (Numbers p numbers.now × (j < p.ballots)) }
-    ensures { let s = inputs_of (trail p (before votes) (before numbers) []) in
+    ensures { let s = inputs_of (trail p votes.now numbers.now []) in
         (result ≡ ballot_row s k j) × (result < p.modulus) }
 {
     shares::share(
@@ -79,7 +80,7 @@ fn ballot_share(p: Parameters, votes: &[u32], numbers: &[u32], k: usize, j: usiz
 // Row k's offset in column c of list l at place i, of rows one and two, which are given. No entry needs row three's.
 fn offset(p: Parameters, numbers: &[u32], l: usize, c: usize, k: usize, i: usize) -> u32
     requires { Numbers p numbers.now × (InList p l × ((c < 3) × ((k < 2) × (i < p.ballots)))) }
-    ensures { let s = inputs_of (trail p [] (before numbers) []) in
+    ensures { let s = inputs_of (trail p [] numbers.now []) in
         (result ≡ row_offset s l c k i) × (result < p.modulus) }
 {
     let start = numbers_at(p, l);
@@ -100,7 +101,7 @@ fn mixed(
 ) -> u32
     requires { Votes p votes.now × (Numbers p numbers.now × (Places p permutations.now
         × (InList p l × ((k < 2) × (i < p.ballots))))) }
-    ensures { let s = inputs_of (trail p (before votes) (before numbers) (before permutations)) in
+    ensures { let s = inputs_of (trail p votes.now numbers.now permutations.now) in
         (result ≡ servers.mixed s l k i) × (result < p.modulus) }
 {
     let third = from(p, permutations, l, 2, i);
@@ -115,7 +116,7 @@ fn mixed(
 // Three numbers that stand one behind the other.
 fn three(numbers: &[u32], at: usize) -> [u32; 3]
     requires { at + 3 ≤ length numbers.now }
-    ensures { result ≡ three_at (before numbers) at }
+    ensures { result ≡ three_at numbers.now at }
 {
     [numbers[at], numbers[at + 1], numbers[at + 2]]
 }
@@ -123,7 +124,7 @@ fn three(numbers: &[u32], at: usize) -> [u32; 3]
 // .. and summed.
 fn sum_at(modulus: u32, numbers: &[u32], at: usize) -> u32
     requires { (at + 3 ≤ length numbers.now) × Below modulus numbers.now }
-    ensures { (result ≡ sum_of_items modulus (three_at (before numbers) at)) × (result < modulus) }
+    ensures { (result ≡ sum_of_items modulus (three_at numbers.now at)) × (result < modulus) }
 {
     modular::sum_of_three(modulus, numbers[at], numbers[at + 1], numbers[at + 2])
 }
@@ -131,7 +132,7 @@ fn sum_at(modulus: u32, numbers: &[u32], at: usize) -> u32
 // The six numbers of ballot j.
 pub fn ballot(p: Parameters, votes: &[u32], numbers: &[u32], j: usize) -> [u32; 6]
     requires { Votes p votes.now × (Numbers p numbers.now × (j < p.ballots)) }
-    ensures { let s = inputs_of (trail p (before votes) (before numbers) []) in
+    ensures { let s = inputs_of (trail p votes.now numbers.now []) in
         ((q : ℕ) → q < 6 → (item result q ≡ ballot_number s j q) × (item result q < p.modulus)) }
 {
     let x = ballot_share(p, votes, numbers, 0, j);
@@ -150,7 +151,7 @@ pub fn entry(
     i: usize,
 ) -> [u32; 6]
     requires { Votes p votes.now × (Numbers p numbers.now × (Places p permutations.now × (InList p l × (i < p.ballots)))) }
-    ensures { let s = inputs_of (trail p (before votes) (before numbers) (before permutations)) in
+    ensures { let s = inputs_of (trail p votes.now numbers.now permutations.now) in
         ((q : ℕ) → q < 6 → (item result q ≡ entry_number s l i q) × (item result q < p.modulus)) }
 {
     let x = mixed(p, votes, numbers, permutations, l, 0, i);
@@ -179,7 +180,7 @@ pub fn entry_side(
 ) -> [u32; 6]
     requires { (side ≤ 1) × (Votes p votes.now × (Numbers p numbers.now × (Places p permutations.now
         × (InList p l × (i < p.ballots))))) }
-    ensures { let s = inputs_of (trail p (before votes) (before numbers) (before permutations)) in
+    ensures { let s = inputs_of (trail p votes.now numbers.now permutations.now) in
         ((k : ℕ) → k < 3 → item result (2 * k + side) ≡ entry_number s l i (2 * k + side)) }
 {
     if side != 0 {
@@ -194,8 +195,8 @@ pub fn entry_side(
 // The place of each ballot in list l.
 pub fn fill_places(p: Parameters, permutations: &[u16], l: usize, out: &mut [u16])
     requires { Places p permutations.now × (InList p l × (length out.old ≡ p.ballots)) }
-    ensures { let s = inputs_of (trail p [] [] (before permutations)) in
-        (length (after out) ≡ p.ballots) × ((j : ℕ) → j < p.ballots → item (after out) j ≡ link_position s l j) }
+    ensures { let s = inputs_of (trail p [] [] permutations.now) in
+        (length out.new ≡ p.ballots) × ((j : ℕ) → j < p.ballots → item out.new j ≡ link_position s l j) }
 {
     let n = p.ballots;
     let mut i: usize = 0;
@@ -209,7 +210,7 @@ pub fn fill_places(p: Parameters, permutations: &[u16], l: usize, out: &mut [u16
 // The shift of ballot j's link to place i of list l: the ballot's first halves less the list's.
 pub fn shift(p: Parameters, numbers: &[u32], l: usize, j: usize, i: usize) -> u32
     requires { Numbers p numbers.now × (InList p l × ((j < p.ballots) × (i < p.ballots))) }
-    ensures { let s = inputs_of (trail p [] (before numbers) []) in
+    ensures { let s = inputs_of (trail p [] numbers.now []) in
         (result ≡ minus p.modulus (sum_of_halves s (s.first_half j)) (sum_of_halves s (s.entry_first_half l i))) × (result < p.modulus) }
 {
     let start = numbers_at(p, l);

@@ -1,5 +1,7 @@
 // Sums and differences modulo m of numbers below m, by comparing and subtracting: no division, and nothing wraps. m is the modulus here,
 // which the record calls M.
+#![tactic(auto)]
+
 ghost use Rattle.std.specs.Prelude.{◌≡◌, ◌<◌};
 ghost use Rattle.laws.specs.Modular as modulo;
 

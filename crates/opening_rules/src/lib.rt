@@ -1,7 +1,8 @@
 // The rules of the commands that open commitments: ballot halves, list halves and full openings. Each function answers the number of
 // the first rule broken, or 0, and is told where its command starts and that the whole of it is there.
+#![tactic(auto)]
+
 ghost use Rattle.std.specs.Prelude.{true, ◌≡◌, ℕ, ◌+◌, ◌*◌, ◌≤◌, ◌<◌, length};
-ghost use Rattle.laws.specs.Lent.{before, after};
 ghost use Rattle.laws.specs.Tests.{every};
 ghost use Rattle.laws.specs.Bytes.{number};
 ghost use Rattle.laws.specs.Chunks.{piece};
@@ -18,7 +19,7 @@ use protocol::{Parameters, Place};
 // Whether the numbers of k openings, one behind the other, are below the modulus.
 fn numbers_below(bytes: &[u8], at: usize, k: usize, modulus: u32) -> bool
     requires { (k ≤ 6) × (at + 36 * k ≤ length bytes.now) }
-    ensures { result ≡ numbers_below modulus (opening_at (before bytes) at) k }
+    ensures { result ≡ numbers_below modulus (opening_at bytes.now at) k }
 {
     let mut i: usize = 0;
     while i < k {
@@ -43,7 +44,7 @@ fn openings_give(
     k: usize,
 ) -> bool
     requires { Openings bytes.now at posted from step k }
-    ensures { let r₀ = before bytes in
+    ensures { let r₀ = bytes.now in
         let slot : ℕ → ℕ = λ i. step * i + from in
         result ≡ every (λ i. gives p (in_slot place (slot i)) (opening_at r₀ at i) (piece r₀ (posted + 32 * slot i) 32)) k }
 {
@@ -62,7 +63,7 @@ fn openings_give(
 // The numbers of three openings, summed.
 fn sum_of_three(bytes: &[u8], at: usize, modulus: u32) -> u32
     requires { (at + 108 ≤ length bytes.now) × (numbers_below modulus (opening_at bytes.now at) 3 ≡ true) }
-    ensures { (result ≡ sum_of_three modulus (opening_at (before bytes) at)) × (result < modulus) }
+    ensures { (result ≡ sum_of_three modulus (opening_at bytes.now at)) × (result < modulus) }
 {
     let two = modular::plus(
         modulus,
@@ -75,7 +76,7 @@ fn sum_of_three(bytes: &[u8], at: usize, modulus: u32) -> u32
 // The numbers of six openings, summed.
 fn sum_of_six(bytes: &[u8], at: usize, modulus: u32) -> u32
     requires { (at + 216 ≤ length bytes.now) × (numbers_below modulus (opening_at bytes.now at) 6 ≡ true) }
-    ensures { (result ≡ sum_of_six modulus (opening_at (before bytes) at)) × (result < modulus) }
+    ensures { (result ≡ sum_of_six modulus (opening_at bytes.now at)) × (result < modulus) }
 {
     let three = sum_of_three(bytes, at, modulus);
     let four = modular::plus(modulus, three, wire::read4(bytes, at + 140));
@@ -93,7 +94,7 @@ pub fn ballot_half_rules(
     text: &[u8],
 ) -> u32
     requires { BallotHalfReady p bytes.now at j drawn text.now }
-    ensures { result ≡ ballot_half_rules p (before bytes) drawn j }
+    ensures { result ≡ ballot_half_rules p bytes.now drawn j }
 {
     if wire::read2(bytes, at + 1) as usize != j {
         return 4;
@@ -133,7 +134,7 @@ fn halves_agree(modulus: u32, side: u32, ballot: u32, list: u32, t: u32) -> bool
 // so t and the ballot's numbers are below M and the side is 0 or 1.
 pub fn list_half_rules(p: Parameters, bytes: &[u8], at: usize, l: usize, j: usize) -> u32
     requires { ListHalfReady p bytes.now at l j }
-    ensures { result ≡ list_half_rules p (before bytes) l j }
+    ensures { result ≡ list_half_rules p bytes.now l j }
 {
     if wire::read1(bytes, at + 1) as usize != l {
         return 4;
@@ -166,8 +167,8 @@ pub fn list_half_rules(p: Parameters, bytes: &[u8], at: usize, l: usize, j: usiz
 // The values of an opened list, whose full openings start at a place, one behind the other.
 fn fill_values(bytes: &[u8], at: usize, modulus: u32, out: &mut [u32])
     requires { ListReady bytes.now at modulus (length out.old) }
-    ensures { let value : ℕ → ℕ = λ i. sum_of_six modulus (opening_at (before bytes) (at + 220 * i + 4)) in
-        after out ≡ tabulate value (length (before out)) }
+    ensures { let value : ℕ → ℕ = λ i. sum_of_six modulus (opening_at bytes.now (at + 220 * i + 4)) in
+        out.new ≡ tabulate value (length out.old) }
 {
     let n = out.len();
     let mut i: usize = 0;
@@ -189,9 +190,9 @@ fn permutes_with(
     votes: &mut [u32],
 ) -> bool
     requires { PermutesReady bytes.now at announced modulus (length values.old) (length votes.old) }
-    ensures { let value : ℕ → ℕ = λ i. sum_of_six modulus (opening_at (before bytes) (at + 220 * i + 4)) in
-        let vote : ℕ → ℕ = λ i. number (before bytes) (announced + 7 * i) 4 in
-        result ≡ permutes value vote (length (before values)) }
+    ensures { let value : ℕ → ℕ = λ i. sum_of_six modulus (opening_at bytes.now (at + 220 * i + 4)) in
+        let vote : ℕ → ℕ = λ i. number bytes.now (announced + 7 * i) 4 in
+        result ≡ permutes value vote (length values.old) }
 {
     fill_values(bytes, at, modulus, values);
     wire::fill_numbers(bytes, announced, 7, votes);
@@ -201,8 +202,8 @@ fn permutes_with(
 // .. with room for both.
 fn list_permutes(bytes: &[u8], at: usize, announced: usize, modulus: u32, n: usize) -> bool
     requires { PermutesReady bytes.now at announced modulus n n }
-    ensures { let value : ℕ → ℕ = λ i. sum_of_six modulus (opening_at (before bytes) (at + 220 * i + 4)) in
-        let vote : ℕ → ℕ = λ i. number (before bytes) (announced + 7 * i) 4 in
+    ensures { let value : ℕ → ℕ = λ i. sum_of_six modulus (opening_at bytes.now (at + 220 * i + 4)) in
+        let vote : ℕ → ℕ = λ i. number bytes.now (announced + 7 * i) 4 in
         result ≡ permutes value vote n }
 {
     let mut values = [0u32; protocol::MOST_BALLOTS];
@@ -220,7 +221,7 @@ fn list_permutes(bytes: &[u8], at: usize, announced: usize, modulus: u32, n: usi
 // 0A: list and position, 4; the numbers, 10; the openings, 13; at the list's last position its values, 16.
 pub fn full_rules(p: Parameters, bytes: &[u8], at: usize, l: usize, i: usize) -> u32
     requires { FullReady p bytes.now at l i }
-    ensures { result ≡ full_rules p (before bytes) l i }
+    ensures { result ≡ full_rules p bytes.now l i }
 {
     if wire::read1(bytes, at + 1) as usize != l {
         return 4;

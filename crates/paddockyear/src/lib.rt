@@ -1,7 +1,8 @@
 // The functions that C and Rust programs link, each a thin face of a proved one. A slice is a pointer and a length.
+#![tactic(auto)]
+
 ghost use Rattle.std.specs.Prelude.{true, false, ◌≡◌, [], ◌++◌, length};
 ghost use Rattle.laws.specs.Faults.{number_of};
-ghost use Rattle.laws.specs.Lent.{before, after};
 ghost use Rattle.laws.specs.Tests.{differ, choose};
 ghost use Rattle.keccak.specs.Keccak.{keccak_f};
 ghost use Rattle.sha3.specs.Sha3.{sha3_224, sha3_256};
@@ -31,7 +32,7 @@ use schedule::{Date, Minute, Schedule, Windows};
 // Keccak-f[1600], in place.
 #[unsafe(no_mangle)]
 pub extern "C" fn paddockyear_keccak_f(lanes: &mut [u64; 25])
-    ensures { after lanes ≡ keccak_f (before lanes) }
+    ensures { lanes.new ≡ keccak_f lanes.old }
 {
     keccak::permute_in_place(lanes);
 }
@@ -39,7 +40,7 @@ pub extern "C" fn paddockyear_keccak_f(lanes: &mut [u64; 25])
 // SHA3-224 of m.
 #[unsafe(no_mangle)]
 pub extern "C" fn paddockyear_sha3_224(m: &[u8], out: &mut [u8; 28])
-    ensures { after out ≡ sha3_224 (before m) }
+    ensures { out.new ≡ sha3_224 m.now }
 {
     sha3::sha3_224(m, out);
 }
@@ -47,7 +48,7 @@ pub extern "C" fn paddockyear_sha3_224(m: &[u8], out: &mut [u8; 28])
 // SHA3-256 of m.
 #[unsafe(no_mangle)]
 pub extern "C" fn paddockyear_sha3_256(m: &[u8], out: &mut [u8; 32])
-    ensures { after out ≡ sha3_256 (before m) }
+    ensures { out.new ≡ sha3_256 m.now }
 {
     sha3::sha3_256(m, out);
 }
@@ -55,7 +56,7 @@ pub extern "C" fn paddockyear_sha3_256(m: &[u8], out: &mut [u8; 32])
 // SHA3-224 of a message in three parts.
 #[unsafe(no_mangle)]
 pub extern "C" fn paddockyear_sha3_224_parts(a: &[u8], b: &[u8], c: &[u8], out: &mut [u8; 28])
-    ensures { after out ≡ sha3_224 (before a ++ (before b ++ before c)) }
+    ensures { out.new ≡ sha3_224 (a.now ++ (b.now ++ c.now)) }
 {
     sha3::hash_parts(144, a, b, c, out);
 }
@@ -63,7 +64,7 @@ pub extern "C" fn paddockyear_sha3_224_parts(a: &[u8], b: &[u8], c: &[u8], out: 
 // SHA3-256 of a message in three parts.
 #[unsafe(no_mangle)]
 pub extern "C" fn paddockyear_sha3_256_parts(a: &[u8], b: &[u8], c: &[u8], out: &mut [u8; 32])
-    ensures { after out ≡ sha3_256 (before a ++ (before b ++ before c)) }
+    ensures { out.new ≡ sha3_256 (a.now ++ (b.now ++ c.now)) }
 {
     sha3::hash_parts(136, a, b, c, out);
 }
@@ -108,10 +109,10 @@ pub extern "C" fn paddockyear_tablet(
     receipt: &mut [u8],
 ) -> u32
     ensures { let refused = tablet_refusal modulus vote x y u1 u2 u3 in
-        let k = refused (length (before keys)) (length (before command)) (length (before receipt)) in
-        let posted = tablet_command (form_told numbered election) modulus id vote x y u1 u2 u3 (before keys) in
+        let k = refused (length keys.now) (length command.old) (length receipt.old) in
+        let posted = tablet_command (form_told numbered election) modulus id vote x y u1 u2 u3 keys.now in
         let printed = tablets.receipt id posted in
-        (result ≡ k) × ((after command ≡ afterwards k (before command) posted) × (after receipt ≡ afterwards k (before receipt) printed)) }
+        (result ≡ k) × ((command.new ≡ afterwards k command.old posted) × (receipt.new ≡ afterwards k receipt.old printed)) }
 {
     written_code(tablet::cast(
         form(numbered, election),
@@ -139,9 +140,9 @@ pub extern "C" fn paddockyear_row_server(
     permutation: &[u16],
     out: &mut [u32],
 ) -> u32
-    ensures { let k = row_refusal modulus n (before numbers) (before offsets) (before permutation) (length (before out)) in
-        let mixed = row_server modulus (before numbers) (before offsets) (before permutation) in
-        (result ≡ k) × (after out ≡ afterwards k (before out) mixed) }
+    ensures { let k = row_refusal modulus n numbers.now offsets.now permutation.now (length out.old) in
+        let mixed = row_server modulus numbers.now offsets.now permutation.now in
+        (result ≡ k) × (out.new ≡ afterwards k out.old mixed) }
 {
     written_code(columns::row_server(modulus, n, numbers, offsets, permutation, out))
 }
@@ -155,9 +156,9 @@ pub extern "C" fn paddockyear_third_row_offsets(
     second: &[u32],
     out: &mut [u32],
 ) -> u32
-    ensures { let k = pair_refusal modulus n (before first) (before second) (length (before out)) in
-        let offsets = third_offsets modulus (before first) (before second) in
-        (result ≡ k) × (after out ≡ afterwards k (before out) offsets) }
+    ensures { let k = pair_refusal modulus n first.now second.now (length out.old) in
+        let offsets = third_offsets modulus first.now second.now in
+        (result ≡ k) × (out.new ≡ afterwards k out.old offsets) }
 {
     written_code(columns::third_row_offsets(modulus, n, first, second, out))
 }
@@ -171,9 +172,9 @@ pub extern "C" fn paddockyear_split(
     first_halves: &[u32],
     out: &mut [u32],
 ) -> u32
-    ensures { let k = pair_refusal modulus n (before numbers) (before first_halves) (length (before out)) in
-        let halves = second_halves modulus (before numbers) (before first_halves) in
-        (result ≡ k) × (after out ≡ afterwards k (before out) halves) }
+    ensures { let k = pair_refusal modulus n numbers.now first_halves.now (length out.old) in
+        let halves = second_halves modulus numbers.now first_halves.now in
+        (result ≡ k) × (out.new ≡ afterwards k out.old halves) }
 {
     written_code(columns::split(modulus, n, numbers, first_halves, out))
 }
@@ -196,9 +197,9 @@ pub extern "C" fn paddockyear_part_one(
     out: &mut [u8],
 ) -> u32
     ensures { let p = parameters (form_told numbered election) modulus ballots compared in
-        let s = given p (before ids) (before votes) (before numbers) (before permutations) (before keys) in
-        let k = part_one_refusal s (length (before out)) in
-        (result ≡ k) × (after out ≡ afterwards k (before out) (first_part s)) }
+        let s = given p ids.now votes.now numbers.now permutations.now keys.now in
+        let k = part_one_refusal s (length out.old) in
+        (result ≡ k) × (out.new ≡ afterwards k out.old (first_part s)) }
 {
     written_code(board::part_one(
         form(numbered, election),
@@ -232,9 +233,9 @@ pub extern "C" fn paddockyear_part_two(
     out: &mut [u8],
 ) -> u32
     ensures { let p = parameters (form_told numbered election) modulus ballots compared in
-        let s = given p (before ids) (before votes) (before numbers) (before permutations) (before keys) in
-        let k = part_two_refusal s (before dice) mask (length (before out)) in
-        (result ≡ k) × (after out ≡ afterwards k (before out) (second_part s (before dice) mask)) }
+        let s = given p ids.now votes.now numbers.now permutations.now keys.now in
+        let k = part_two_refusal s dice.now mask (length out.old) in
+        (result ≡ k) × (out.new ≡ afterwards k out.old (second_part s dice.now mask)) }
 {
     written_code(comparison::part_two(
         form(numbered, election),
@@ -270,10 +271,10 @@ pub extern "C" fn paddockyear_part_two_drawn(
     out: &mut [u8],
 ) -> u32
     ensures { let p = parameters (form_told numbered election) modulus ballots compared in
-        let s = given p (before ids) (before votes) (before numbers) (before permutations) (before keys) in
-        let k = part_two_drawn_refusal s (before dice) (length (before one)) (length (before out)) in
-        let two = second_part s (before dice) (mask_for s (before dice) (before one)) in
-        (result ≡ k) × (after out ≡ afterwards k (before out) two) }
+        let s = given p ids.now votes.now numbers.now permutations.now keys.now in
+        let k = part_two_drawn_refusal s dice.now (length one.now) (length out.old) in
+        let two = second_part s dice.now (mask_for s dice.now one.now) in
+        (result ≡ k) × (out.new ≡ afterwards k out.old two) }
 {
     written_code(comparison::part_two_drawn(
         form(numbered, election),
@@ -310,9 +311,9 @@ pub extern "C" fn paddockyear_part_three(
     out: &mut [u8],
 ) -> u32
     ensures { let p = parameters (form_told numbered election) modulus ballots compared in
-        let s = given p (before ids) (before votes) (before numbers) (before permutations) (before keys) in
-        let k = part_three_refusal s (before dice) mask (before sides) (length (before out)) in
-        (result ≡ k) × (after out ≡ afterwards k (before out) (third_part s (before dice) mask (before sides))) }
+        let s = given p ids.now votes.now numbers.now permutations.now keys.now in
+        let k = part_three_refusal s dice.now mask sides.now (length out.old) in
+        (result ≡ k) × (out.new ≡ afterwards k out.old (third_part s dice.now mask sides.now)) }
 {
     written_code(disclosure::part_three(
         form(numbered, election),
@@ -351,10 +352,10 @@ pub extern "C" fn paddockyear_part_three_drawn(
     out: &mut [u8],
 ) -> u32
     ensures { let p = parameters (form_told numbered election) modulus ballots compared in
-        let s = given p (before ids) (before votes) (before numbers) (before permutations) (before keys) in
-        let k = part_three_drawn_refusal s (before dice) mask (length (before one)) (length (before two)) (length (before out)) in
-        let three = third_part s (before dice) mask (sides_for s (before dice) (before one) (before two)) in
-        (result ≡ k) × (after out ≡ afterwards k (before out) three) }
+        let s = given p ids.now votes.now numbers.now permutations.now keys.now in
+        let k = part_three_drawn_refusal s dice.now mask (length one.now) (length two.now) (length out.old) in
+        let three = third_part s dice.now mask (sides_for s dice.now one.now two.now) in
+        (result ≡ k) × (out.new ≡ afterwards k out.old three) }
 {
     written_code(disclosure::part_three_drawn(
         form(numbered, election),
@@ -386,8 +387,8 @@ pub extern "C" fn paddockyear_draw_mask(
     one: &[u8],
     mask: &mut u32,
 ) -> u32
-    ensures { let k = draw_refusal (parameters (form_told numbered election) modulus ballots compared) (before dice) (length (before one)) in
-        let drawn = drawn_mask compared (challenge (before dice) (before one)) in
+    ensures { let k = draw_refusal (parameters (form_told numbered election) modulus ballots compared) dice.now (length one.now) in
+        let drawn = drawn_mask compared (challenge dice.now one.now) in
         (result ≡ k) × (mask.new ≡ choose k drawn mask.old) }
 {
     match comparison::draw(
@@ -443,12 +444,12 @@ pub extern "C" fn paddockyear_election(
     joined: &mut [u8],
 ) -> u32
     ensures { let p = parameters (form_told numbered election) modulus ballots compared in
-        let s = given p (before ids) (before votes) (before numbers) (before permutations) (before keys) in
+        let s = given p ids.now votes.now numbers.now permutations.now keys.now in
         let byMask = choice_of (differ mask_given 0) mask in
-        let bySides = choice_of (differ sides_given 0) (before sides) in
-        let e = lent s byMask (before first_dice) bySides (before second_dice) in
-        let was = buffers (before one) (before two) (before three) (before joined) in
-        let is = buffers (after one) (after two) (after three) (after joined) in
+        let bySides = choice_of (differ sides_given 0) sides.now in
+        let e = lent s byMask first_dice.now bySides second_dice.now in
+        let was = buffers one.old two.old three.old joined.old in
+        let is = buffers one.new two.new three.new joined.new in
         Held e was is (answer_of result []) }
 {
     outcome_code(election::hold(
@@ -489,7 +490,7 @@ fn number_of(f: Found) -> u32
 // Plain judging: 0 for accepted, else the number of the first rule broken.
 #[unsafe(no_mangle)]
 pub extern "C" fn paddockyear_judge_plainly(bytes: &[u8]) -> u32
-    ensures { result ≡ number_of (first_fault false (before bytes)) }
+    ensures { result ≡ number_of (first_fault false bytes.now) }
 {
     number_of(verifier::first_fault(bytes, false))
 }
@@ -497,7 +498,7 @@ pub extern "C" fn paddockyear_judge_plainly(bytes: &[u8]) -> u32
 // Drawn judging, answered in the same way.
 #[unsafe(no_mangle)]
 pub extern "C" fn paddockyear_judge_as_drawn(bytes: &[u8]) -> u32
-    ensures { result ≡ number_of (first_fault true (before bytes)) }
+    ensures { result ≡ number_of (first_fault true bytes.now) }
 {
     number_of(verifier::first_fault(bytes, true))
 }
@@ -506,7 +507,7 @@ pub extern "C" fn paddockyear_judge_as_drawn(bytes: &[u8]) -> u32
 // judging.
 #[unsafe(no_mangle)]
 pub extern "C" fn paddockyear_first_fault(bytes: &[u8], drawn: u32, place: &mut u64) -> u32
-    ensures { let found = first_fault (differ drawn 0) (before bytes) in
+    ensures { let found = first_fault (differ drawn 0) bytes.now in
         (result ≡ number_of found) × (place.new ≡ place_in found place.old) }
 {
     match verifier::first_fault(bytes, drawn != 0) {
@@ -526,12 +527,12 @@ pub extern "C" fn paddockyear_tally(
     counts: &mut [u64],
     pairs: &mut u64,
 ) -> u32
-    ensures { let k = tally_refusal (before votes) (length (before values)) (length (before counts)) in
-        let written = in_front (distinct_votes (before votes)) (before values) in
-        let counted = in_front (vote_counts (before votes)) (before counts) in
+    ensures { let k = tally_refusal votes.now (length values.old) (length counts.old) in
+        let written = in_front (distinct_votes votes.now) values.old in
+        let counted = in_front (vote_counts votes.now) counts.old in
         (result ≡ k)
-        × ((pairs.new ≡ choose k (length (distinct_votes (before votes))) pairs.old)
-        × ((after values ≡ afterwards k (before values) written) × (after counts ≡ afterwards k (before counts) counted))) }
+        × ((pairs.new ≡ choose k (length (distinct_votes votes.now)) pairs.old)
+        × ((values.new ≡ afterwards k values.old written) × (counts.new ≡ afterwards k counts.old counted))) }
 {
     match results::tally::tally(votes, values, counts) {
         Tally::Refused(k) => k,
@@ -547,7 +548,7 @@ pub extern "C" fn paddockyear_tally(
 // 0 posted as printed, 101 posted otherwise, 102 not posted, else the refusal's number.
 #[unsafe(no_mangle)]
 pub extern "C" fn paddockyear_check_receipt(bytes: &[u8], printed: &[u8]) -> u32
-    ensures { result ≡ receipt_code (receipt_checked (before bytes) (before printed)) }
+    ensures { result ≡ receipt_code (receipt_checked bytes.now printed.now) }
 {
     receipt_code(results::receipts::check_receipt(bytes, printed))
 }
@@ -555,7 +556,7 @@ pub extern "C" fn paddockyear_check_receipt(bytes: &[u8], printed: &[u8]) -> u32
 // The same, from the ballots up to the first whose id is the one sought or larger.
 #[unsafe(no_mangle)]
 pub extern "C" fn paddockyear_look_up(bytes: &[u8], printed: &[u8]) -> u32
-    ensures { result ≡ receipt_code (looked_up (before bytes) (before printed)) }
+    ensures { result ≡ receipt_code (looked_up bytes.now printed.now) }
 {
     receipt_code(results::receipts::look_up(bytes, printed))
 }
@@ -574,8 +575,8 @@ fn receipt_code(answer: Receipt) -> u32
 // The announced votes of an accepted record.
 #[unsafe(no_mangle)]
 pub extern "C" fn paddockyear_announced_votes(bytes: &[u8], out: &mut [u32]) -> u32
-    ensures { let k = announced_refusal (before bytes) (length (before out)) in
-        (result ≡ k) × (after out ≡ afterwards k (before out) (announced_votes (before bytes))) }
+    ensures { let k = announced_refusal bytes.now (length out.old) in
+        (result ≡ k) × (out.new ≡ afterwards k out.old (announced_votes bytes.now)) }
 {
     written_code(results::votes::announced_votes(bytes, out))
 }
@@ -613,10 +614,10 @@ pub extern "C" fn paddockyear_runoff(
 ) -> u32
     ensures { let k = rounds.runoff_refusal candidates (length table.old) in
         (result ≡ k)
-        × ((winner.new ≡ choose k (rounds.winner candidates (before votes)) winner.old)
-        × ((blank.new ≡ choose k (rounds.blank_votes (before votes)) blank.old)
-        × ((spoiled.new ≡ choose k (rounds.spoiled_votes candidates (before votes)) spoiled.old)
-        × (table.new ≡ rounds.table_after candidates (before votes) table.old)))) }
+        × ((winner.new ≡ choose k (rounds.winner candidates votes.now) winner.old)
+        × ((blank.new ≡ choose k (rounds.blank_votes votes.now) blank.old)
+        × ((spoiled.new ≡ choose k (rounds.spoiled_votes candidates votes.now) spoiled.old)
+        × (table.new ≡ rounds.table_after candidates votes.now table.old)))) }
 {
     let r = runoff::run_off(votes, candidates as usize, table);
     runoff_code(r, winner, blank, spoiled)
@@ -650,9 +651,9 @@ pub extern "C" fn paddockyear_calendar(
     windows: &mut [u64; 8],
 ) -> u32
     ensures { let election = date_told year month day in
-        let k = calendar.schedule_refusal election (before holidays) in
-        let numbers = calendar.numbers (calendar.windows election (before holidays)) in
-        (result ≡ k) × (after windows ≡ choose k numbers (before windows)) }
+        let k = calendar.schedule_refusal election holidays.now in
+        let numbers = calendar.numbers (calendar.windows election holidays.now) in
+        (result ≡ k) × (windows.new ≡ choose k numbers windows.old) }
 {
     let election = Date {
         year: year,
@@ -679,8 +680,8 @@ pub extern "C" fn paddockyear_window_at(
     window: &mut u32,
 ) -> u32
     ensures { let election = date_told year month day in
-        let k = calendar.schedule_refusal election (before holidays) in
-        let number = calendar.window_of (calendar.windows election (before holidays)) minute in
+        let k = calendar.schedule_refusal election holidays.now in
+        let number = calendar.window_of (calendar.windows election holidays.now) minute in
         (result ≡ k) × (window.new ≡ choose k number window.old) }
 {
     let election = Date {

@@ -51,10 +51,10 @@ Unfair c = (c < 49) ⊎ (54 < c)
 -- `drawn` says whether rules 8 and 12 are asked for, `copies` whether 21 is
 pub data Broken (copies drawn : Bool) (p : Parameters) (r : List ℕ) : Due → Test → Type 0 where
   -- 1 "the record stops inside a command or before 0B": no byte of the command is left, or not all of its bytes
-  none_left : (d : Due) → length r ≤ place_of p r d → Broken copies drawn p r d none_left
-  cut_short : (d : Due) → length r < place_of p r d + width p d → Broken copies drawn p r d cut_short
+  is_none_left : (d : Due) → length r ≤ place_of p r d → Broken copies drawn p r d none_left
+  is_cut_short : (d : Due) → length r < place_of p r d + width p d → Broken copies drawn p r d cut_short
   -- 2 "a command byte that is not due"
-  not_due : (d : Due) → item r (place_of p r d) ≢ code p d → Broken copies drawn p r d not_due
+  is_not_due : (d : Due) → item r (place_of p r d) ≢ code p d → Broken copies drawn p r d not_due
   -- 3 "M, n or m outside its limits"
   modulus : ModulusOutside (parameters_of r).modulus → Broken copies drawn p r First (numbered 3)
   ballots : BallotsOutside (parameters_of r).ballots → Broken copies drawn p r First (numbered 3)

@@ -1,6 +1,7 @@
 // The command reader: each command byte leads to its own rule, and every byte not due is refused.
+#![tactic(auto)]
+
 ghost use Rattle.std.specs.Prelude.{◌≡◌, []};
-ghost use Rattle.laws.specs.Lent.{before};
 ghost use Rattle.protocol.specs.Rules.{fault};
 ghost use Rattle.protocol.specs.Judging.{found};
 ghost use Rattle.rules.specs.Known.{Told};
@@ -9,7 +10,7 @@ use laws::Found;
 use protocol::{Due, Parameters};
 
 // What a command is judged by beside the record: the parameters, and whether mask and sides are to be the drawn ones.
-#[derive(Drop)]
+#[derive(Clone, Copy)]
 struct Context {
     parameters: Parameters,
     drawn: bool,
@@ -19,7 +20,7 @@ struct Context {
 // `text` is what mask or sides are drawn from, `marks` tells the taken positions of a link's list; a command that has none lends nothing.
 fn command(bytes: &[u8], at: usize, due: Due, c: Context, text: &[u8], marks: &[bool]) -> u32
     requires { Told c.parameters bytes.now c.drawn text.now marks.now at due }
-    ensures { result ≡ fault c.parameters (before bytes) c.drawn due }
+    ensures { result ≡ fault c.parameters bytes.now c.drawn due }
 {
     if bytes.len() <= at {
         return 1;
@@ -136,7 +137,7 @@ fn command(bytes: &[u8], at: usize, due: Due, c: Context, text: &[u8], marks: &[
 }
 
 // The lent record and the next command's place.
-#[derive(Drop)]
+#[derive(Clone, Copy)]
 struct Reader<'a> {
     pub bytes: &'a [u8],
     pub at: usize,
@@ -153,7 +154,7 @@ fn read<'a, 'b, 'c>(r: Reader<'a>, due: Due, c: Context, text: &'b [u8], marks: 
 // One command through the reader. Its parameters are plain, so whoever calls it needs nothing of the reader's.
 fn step(bytes: &[u8], at: usize, due: Due, c: Context, text: &[u8], marks: &[bool]) -> u32
     requires { Told c.parameters bytes.now c.drawn text.now marks.now at due }
-    ensures { result ≡ fault c.parameters (before bytes) c.drawn due }
+    ensures { result ≡ fault c.parameters bytes.now c.drawn due }
 {
     read(Reader { bytes, at }, due, c, text, marks)
 }
@@ -162,7 +163,7 @@ fn step(bytes: &[u8], at: usize, due: Due, c: Context, text: &[u8], marks: &[boo
 // nothing.
 fn found_at(bytes: &[u8], at: usize, due: Due, c: Context, text: &[u8], marks: &[bool]) -> Found
     requires { Told c.parameters bytes.now c.drawn text.now marks.now at due }
-    ensures { result ≡ found c.drawn c.parameters (before bytes) due }
+    ensures { result ≡ found c.drawn c.parameters bytes.now due }
 {
     let k = step(bytes, at, due, c, text, marks);
     if k != 0 {
@@ -174,7 +175,7 @@ fn found_at(bytes: &[u8], at: usize, due: Due, c: Context, text: &[u8], marks: &
 // .. of a command that has neither text nor marks.
 pub fn command_fault(bytes: &[u8], at: usize, due: Due, p: Parameters, drawn: bool) -> Found
     requires { Told p bytes.now drawn [] [] at due }
-    ensures { result ≡ found drawn p (before bytes) due }
+    ensures { result ≡ found drawn p bytes.now due }
 {
     let none: [bool; 0] = [];
     let c = Context {
@@ -194,7 +195,7 @@ pub fn drawn_fault(
     text: &[u8],
 ) -> Found
     requires { Told p bytes.now drawn text.now [] at due }
-    ensures { result ≡ found drawn p (before bytes) due }
+    ensures { result ≡ found drawn p bytes.now due }
 {
     let none: [bool; 0] = [];
     let c = Context {
@@ -215,7 +216,7 @@ pub fn link_fault(
     marks: &[bool],
 ) -> Found
     requires { Told p bytes.now drawn [] marks.now at (Due.Link l j) }
-    ensures { result ≡ found drawn p (before bytes) (Due.Link l j) }
+    ensures { result ≡ found drawn p bytes.now (Due.Link l j) }
 {
     let c = Context {
         parameters: p,

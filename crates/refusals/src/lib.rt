@@ -1,9 +1,10 @@
 // What each of the writers refuses: the number of the first rule that its inputs, or the lengths of what it is lent, break; 0 where none
 // is broken. Limits are tested first, 3, then lengths, 18, then the rest in rising number.
+#![tactic(auto)]
+
 mod original;
 
 ghost use Rattle.std.specs.Prelude.{◌≡◌, ◌*◌, ◌<◌, length};
-ghost use Rattle.laws.specs.Lent.{before};
 ghost use Rattle.laws.specs.Tests.{◌and◌};
 ghost use Rattle.laws.specs.Faults.{rule};
 ghost use Rattle.protocol.specs.Layout.{part_two_length, part_three_length};
@@ -21,7 +22,7 @@ use protocol::Parameters;
 
 // Whether each id is above the one before.
 fn ids_rise(ids: &[u32]) -> bool
-    ensures { result ≡ rising (before ids) }
+    ensures { result ≡ rising ids.now }
 {
     let mut i: usize = 1;
     while i < ids.len() {
@@ -35,7 +36,7 @@ fn ids_rise(ids: &[u32]) -> bool
 
 // Whether every side is 0 or 1.
 fn binary_sides(sides: &[u8]) -> bool
-    ensures { result ≡ binary (before sides) }
+    ensures { result ≡ binary sides.now }
 {
     let mut i: usize = 0;
     while i < sides.len() {
@@ -50,7 +51,7 @@ fn binary_sides(sides: &[u8]) -> bool
 // Whether all three permutations of every list are permutations.
 fn all_permutations(p: Parameters, permutations: &[u16]) -> bool
     requires { Few p × (length permutations.now ≡ 6 * (p.compared * p.ballots)) }
-    ensures { result ≡ permutations_in p (before permutations) }
+    ensures { result ≡ permutations_in p permutations.now }
 {
     let rows = 2 * protocol::ENTRY_PERMUTATIONS * p.compared;
     let mut c: usize = 0;
@@ -77,7 +78,7 @@ fn due_lengths(
     keys: &[u8],
 ) -> bool
     requires { Few p }
-    ensures { let s = given p (before ids) (before votes) (before numbers) (before permutations) (before keys) in
+    ensures { let s = given p ids.now votes.now numbers.now permutations.now keys.now in
         result ≡ due_lengths s }
 {
     let entries = 2 * (p.compared * p.ballots);
@@ -109,7 +110,7 @@ fn refuse(
     binary: bool,
 ) -> u32
     requires { Few p × (0 < p.modulus) }
-    ensures { let s = given p (before ids) (before votes) (before numbers) (before permutations) (before keys) in
+    ensures { let s = given p ids.now votes.now numbers.now permutations.now keys.now in
         result ≡ rule 18 (due_lengths s) (contents_refusal s fair shape binary) }
 {
     if !due_lengths(p, ids, votes, numbers, permutations, keys) {
@@ -182,7 +183,7 @@ fn mask_in_shape(p: Parameters, mask_given: bool, mask: u32) -> bool
 
 // Sides, where they are given, are one for each ballot ..
 fn sides_due(p: Parameters, sides_given: bool, sides: &[u8]) -> bool
-    ensures { result ≡ sides_due p (choice_of sides_given (before sides)) }
+    ensures { result ≡ sides_due p (choice_of sides_given sides.now) }
 {
     if !sides_given {
         return true;
@@ -192,7 +193,7 @@ fn sides_due(p: Parameters, sides_given: bool, sides: &[u8]) -> bool
 
 // .. and 0 or 1 each.
 fn sides_binary(sides_given: bool, sides: &[u8]) -> bool
-    ensures { result ≡ binary_where (choice_of sides_given (before sides)) }
+    ensures { result ≡ binary_where (choice_of sides_given sides.now) }
 {
     if !sides_given {
         return true;
@@ -212,7 +213,7 @@ pub fn part_one(
     keys: &[u8],
     out_len: usize,
 ) -> u32
-    ensures { let s = given p (before ids) (before votes) (before numbers) (before permutations) (before keys) in
+    ensures { let s = given p ids.now votes.now numbers.now permutations.now keys.now in
         result ≡ part_one_refusal s out_len }
 {
     if !limits::in_limits(p) {
@@ -236,8 +237,8 @@ pub fn part_two(
     mask: u32,
     out_len: usize,
 ) -> u32
-    ensures { let s = given p (before ids) (before votes) (before numbers) (before permutations) (before keys) in
-        result ≡ part_two_refusal s (before dice) mask out_len }
+    ensures { let s = given p ids.now votes.now numbers.now permutations.now keys.now in
+        result ≡ part_two_refusal s dice.now mask out_len }
 {
     if !limits::in_limits(p) {
         return 3;
@@ -272,8 +273,8 @@ pub fn part_two_drawn(
     one_len: usize,
     out_len: usize,
 ) -> u32
-    ensures { let s = given p (before ids) (before votes) (before numbers) (before permutations) (before keys) in
-        result ≡ part_two_drawn_refusal s (before dice) one_len out_len }
+    ensures { let s = given p ids.now votes.now numbers.now permutations.now keys.now in
+        result ≡ part_two_drawn_refusal s dice.now one_len out_len }
 {
     if !limits::in_limits(p) {
         return 3;
@@ -300,8 +301,8 @@ pub fn part_three(
     sides: &[u8],
     out_len: usize,
 ) -> u32
-    ensures { let s = given p (before ids) (before votes) (before numbers) (before permutations) (before keys) in
-        result ≡ part_three_refusal s (before dice) mask (before sides) out_len }
+    ensures { let s = given p ids.now votes.now numbers.now permutations.now keys.now in
+        result ≡ part_three_refusal s dice.now mask sides.now out_len }
 {
     if !limits::in_limits(p) {
         return 3;
@@ -340,8 +341,8 @@ pub fn part_three_drawn(
     two_len: usize,
     out_len: usize,
 ) -> u32
-    ensures { let s = given p (before ids) (before votes) (before numbers) (before permutations) (before keys) in
-        result ≡ part_three_drawn_refusal s (before dice) mask one_len two_len out_len }
+    ensures { let s = given p ids.now votes.now numbers.now permutations.now keys.now in
+        result ≡ part_three_drawn_refusal s dice.now mask one_len two_len out_len }
 {
     if !limits::in_limits(p) {
         return 3;
@@ -371,7 +372,7 @@ pub fn part_three_drawn(
 
 // The draw of a mask alone.
 pub fn draw(p: Parameters, dice: &[u8], one_len: usize) -> u32
-    ensures { result ≡ draw_refusal p (before dice) one_len }
+    ensures { result ≡ draw_refusal p dice.now one_len }
 {
     if !limits::in_limits(p) {
         return 3;
@@ -405,10 +406,10 @@ pub fn election(
     three_len: usize,
     joined_len: usize,
 ) -> u32
-    ensures { let s = given p (before ids) (before votes) (before numbers) (before permutations) (before keys) in
+    ensures { let s = given p ids.now votes.now numbers.now permutations.now keys.now in
         let byMask = choice_of mask_given mask in
-        let bySides = choice_of sides_given (before sides) in
-        let k = election_refusal s byMask (before first_dice) bySides (before second_dice) in
+        let bySides = choice_of sides_given sides.now in
+        let k = election_refusal s byMask first_dice.now bySides second_dice.now in
         result ≡ k one_len two_len three_len joined_len }
 {
     if !limits::in_limits(p) {

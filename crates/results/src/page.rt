@@ -1,7 +1,6 @@
 // The page of a record: the line of an election's number, and the lines of a tally.
 ghost use Rattle.std.specs.Prelude.{true, [], ◌∷◌, ◌++◌, ◌≡◌, ◌+◌, ◌*◌, ◌≤◌, length};
 ghost use Rattle.laws.specs.Chunks.{chunks};
-ghost use Rattle.laws.specs.Lent.{before, after};
 ghost use Rattle.laws.specs.Writing.{Went};
 ghost use Rattle.protocol.specs.Terms.{item, most_ballots, decimal};
 ghost use Rattle.protocol.specs.Judging.{first_fault};
@@ -16,7 +15,7 @@ use protocol::{Form, MOST_BALLOTS, Parameters};
 // Writes the line of the election's number, in the form that has one, from a place on, and answers the next place.
 pub fn put_election(form: Form, out: &mut [u8], at: usize) -> usize
     requires { at + election_most ≤ length out.old }
-    ensures { Went (before out) at (election_line form) (after out) result }
+    ensures { Went out.old at (election_line form) out.new result }
 {
     match form {
         Form::Unnumbered => at,
@@ -31,7 +30,7 @@ pub fn put_election(form: Form, out: &mut [u8], at: usize) -> usize
 // Writes the line of a vote, one space, and how often it was announced from a place on, and answers the next place.
 fn put_line(out: &mut [u8], at: usize, vote: u32, count: u32) -> usize
     requires { at + line_most ≤ length out.old }
-    ensures { Went (before out) at (tally_line vote count) (after out) result }
+    ensures { Went out.old at (tally_line vote count) out.new result }
 {
     let space = decimals::put_decimal(out, at, vote);
     let second = wire::put1(out, space, 32);
@@ -42,8 +41,8 @@ fn put_line(out: &mut [u8], at: usize, vote: u32, count: u32) -> usize
 // Writes a line for each of the first pairs of vote and count, and answers the next place.
 fn put_lines(values: &[u32], counts: &[u64], pairs: usize, out: &mut [u8], at: usize) -> usize
     requires { LinesReady values.now counts.now pairs (length out.old) at }
-    ensures { let lines = chunks (λ i. tally_line (item (before values) i) (item (before counts) i)) pairs in
-        Went (before out) at lines (after out) result }
+    ensures { let lines = chunks (λ i. tally_line (item values.now i) (item counts.now i)) pairs in
+        Went out.old at lines out.new result }
 {
     let mut next = at;
     let mut i: usize = 0;
@@ -63,7 +62,7 @@ fn put_tally(
     at: usize,
 ) -> usize
     requires { LinesRoom votes.now (length values.old) (length counts.old) (length out.old) at }
-    ensures { Went (before out) at (tally_lines (before votes)) (after out) result }
+    ensures { Went out.old at (tally_lines votes.now) out.new result }
 {
     let pairs = fill(votes, values, counts);
     put_lines(values, counts, pairs, out, at)
@@ -80,7 +79,7 @@ fn put_announced(
     at: usize,
 ) -> usize
     requires { AnnouncedRoom p bytes.now (length votes.old) (length values.old) (length counts.old) (length out.old) at }
-    ensures { Went (before out) at (tally_lines (announced_votes (before bytes))) (after out) result }
+    ensures { Went out.old at (tally_lines (announced_votes bytes.now)) out.new result }
 {
     read_votes(bytes, p, votes);
     put_tally(votes, values, counts, out, at)
@@ -102,7 +101,7 @@ fn counters() -> [u64; MOST_BALLOTS]
 // Writes a line for each distinct vote that an accepted record announces, rising, from a place on, and answers the next place.
 pub fn put_result(bytes: &[u8], out: &mut [u8], at: usize) -> usize
     requires { (first_fault true bytes.now ≡ Found.Nothing) × (at + line_most * most_ballots ≤ length out.old) }
-    ensures { Went (before out) at (tally_lines (announced_votes (before bytes))) (after out) result }
+    ensures { Went out.old at (tally_lines (announced_votes bytes.now)) out.new result }
 {
     let p = layout::parameters(bytes);
     let n = p.ballots;

@@ -2,7 +2,6 @@
 ghost use Rattle.std.specs.Prelude.{false, ◌≡◌};
 ghost use Rattle.laws.specs.Bytes.{number};
 ghost use Rattle.laws.specs.Faults.{number_of};
-ghost use Rattle.laws.specs.Lent.{before};
 ghost use Rattle.laws.specs.Tests.{equal, pick};
 ghost use Rattle.protocol.specs.Answers.{done, answer_of, receipt_answer};
 ghost use Rattle.protocol.specs.Judging.{ballot_faults};
@@ -16,7 +15,7 @@ use protocol::{Due, Parameters, Receipt};
 // The answer at a ballot with the printed id: posted as printed, or otherwise.
 fn receipt_at(bytes: &[u8], p: Parameters, printed: &[u8], j: usize) -> Receipt
     requires { BallotReady p bytes.now printed.now j }
-    ensures { receipt_answer result ≡ done (definitions.receipt_at p (before bytes) (before printed) j) }
+    ensures { receipt_answer result ≡ done (definitions.receipt_at p bytes.now printed.now j) }
 {
     let at = layout::at_ballot(p, j);
     let to = at + 197;
@@ -31,8 +30,8 @@ fn receipt_at(bytes: &[u8], p: Parameters, printed: &[u8], j: usize) -> Receipt
 // The answer of the first j ballots, which is given, and ballot j.
 fn receipt_with(bytes: &[u8], p: Parameters, printed: &[u8], j: usize, given: Receipt) -> Receipt
     requires { BallotReady p bytes.now printed.now j }
-    ensures { let tested = equal (id_of p (before bytes) j) (number (before printed) 0 4) in
-        receipt_answer result ≡ pick tested (done (definitions.receipt_at p (before bytes) (before printed) j)) (receipt_answer given) }
+    ensures { let tested = equal (id_of p bytes.now j) (number printed.now 0 4) in
+        receipt_answer result ≡ pick tested (done (definitions.receipt_at p bytes.now printed.now j)) (receipt_answer given) }
 {
     if wire::read4(bytes, layout::at_ballot(p, j) + 1) == wire::read4(printed, 0) {
         return receipt_at(bytes, p, printed, j);
@@ -43,7 +42,7 @@ fn receipt_with(bytes: &[u8], p: Parameters, printed: &[u8], j: usize, given: Re
 // The answer among all ballots.
 fn receipt_among(bytes: &[u8], p: Parameters, printed: &[u8]) -> Receipt
     requires { BallotsReady p bytes.now printed.now }
-    ensures { receipt_answer result ≡ done (definitions.receipt_among p (before bytes) (before printed) p.ballots) }
+    ensures { receipt_answer result ≡ done (definitions.receipt_among p bytes.now printed.now p.ballots) }
 {
     let n = p.ballots;
     let mut answer = Receipt::NotPosted;
@@ -58,7 +57,7 @@ fn receipt_among(bytes: &[u8], p: Parameters, printed: &[u8]) -> Receipt
 
 // Entry: whether a receipt is posted as printed.
 pub fn check_receipt(bytes: &[u8], printed: &[u8]) -> Receipt
-    ensures { receipt_answer result ≡ definitions.receipt_checked (before bytes) (before printed) }
+    ensures { receipt_answer result ≡ definitions.receipt_checked bytes.now printed.now }
 {
     if printed.len() != 32 {
         return Receipt::Refused(18);
@@ -72,9 +71,9 @@ pub fn check_receipt(bytes: &[u8], printed: &[u8]) -> Receipt
 // The answer from the ballots up to the first whose id is the one sought or larger. A ballot's own rules come before its id is looked at.
 fn look_among(bytes: &[u8], p: Parameters, printed: &[u8]) -> Receipt
     requires { LookupReady p printed.now }
-    ensures { let r₀ = before bytes in
-        let read = definitions.ballots_read p r₀ (before printed) p.ballots in
-        receipt_answer result ≡ answer_of (number_of (ballot_faults false p r₀ read)) (definitions.receipt_among p r₀ (before printed) read) }
+    ensures { let r₀ = bytes.now in
+        let read = definitions.ballots_read p r₀ printed.now p.ballots in
+        receipt_answer result ≡ answer_of (number_of (ballot_faults false p r₀ read)) (definitions.receipt_among p r₀ printed.now read) }
 {
     let all = p.ballots;
     let sought = wire::read4(printed, 0);
@@ -96,7 +95,7 @@ fn look_among(bytes: &[u8], p: Parameters, printed: &[u8]) -> Receipt
 // Entry: the receipt check's answers from the ballots up to the first whose id is the one sought or larger. Nothing behind that one is
 // read, so that a fault there is left to the judge.
 pub fn look_up(bytes: &[u8], printed: &[u8]) -> Receipt
-    ensures { receipt_answer result ≡ definitions.looked_up (before bytes) (before printed) }
+    ensures { receipt_answer result ≡ definitions.looked_up bytes.now printed.now }
 {
     let long = printed.len();
     if long != 32 {

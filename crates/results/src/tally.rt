@@ -1,6 +1,5 @@
 // The tally: distinct votes, rising, with how often each stands in the slice.
 ghost use Rattle.std.specs.Prelude.{◌≡◌, ◌-◌, ◌<◌, length};
-ghost use Rattle.laws.specs.Lent.{before, after};
 ghost use Rattle.laws.specs.Tests.{equal, differ, ◌or◌};
 ghost use Rattle.protocol.specs.Terms.{item};
 ghost use Rattle.protocol.specs.Refusals.{afterwards};
@@ -12,7 +11,7 @@ use protocol::Tally;
 
 // What the tally refuses, by number.
 fn refuse(votes: &[u32], values_len: usize, counts_len: usize) -> u32
-    ensures { result ≡ tally_refusal (before votes) values_len counts_len }
+    ensures { result ≡ tally_refusal votes.now values_len counts_len }
 {
     if values_len != votes.len() {
         return 18;
@@ -33,7 +32,7 @@ fn refuse(votes: &[u32], values_len: usize, counts_len: usize) -> u32
 // Whether a vote is the first of its number.
 fn is_fresh(votes: &[u32], i: usize) -> bool
     requires { i < length votes.now }
-    ensures { result ≡ (equal i 0 or differ (item (before votes) (i - 1)) (item (before votes) i)) }
+    ensures { result ≡ (equal i 0 or differ (item votes.now (i - 1)) (item votes.now i)) }
 {
     if i == 0 {
         return true;
@@ -44,9 +43,9 @@ fn is_fresh(votes: &[u32], i: usize) -> bool
 // Writes each distinct vote and how often it stands, and answers how many there are. Equal votes stand side by side.
 pub(crate) fn fill(votes: &[u32], values: &mut [u32], counts: &mut [u64]) -> usize
     requires { TallyReady votes.now (length values.old) (length counts.old) }
-    ensures values { after values ≡ in_front (distinct_votes (before votes)) (before values) }
-    ensures counts { after counts ≡ in_front (vote_counts (before votes)) (before counts) }
-    ensures answer { result ≡ length (distinct_votes (before votes)) }
+    ensures values { values.new ≡ in_front (distinct_votes votes.now) values.old }
+    ensures counts { counts.new ≡ in_front (vote_counts votes.now) counts.old }
+    ensures answer { result ≡ length (distinct_votes votes.now) }
 {
     let mut pairs: usize = 0;
     let mut i: usize = 0;
@@ -67,11 +66,11 @@ pub(crate) fn fill(votes: &[u32], values: &mut [u32], counts: &mut [u64]) -> usi
 
 // Entry: the tally of votes that do not fall, into two lent slices of the votes' length. What lies behind the last pair is unchanged.
 pub fn tally(votes: &[u32], values: &mut [u32], counts: &mut [u64]) -> Tally
-    ensures answer { tally_answer result ≡ tallied (before votes) (length (before values)) (length (before counts)) }
-    ensures values { let k = tally_refusal (before votes) (length (before values)) (length (before counts)) in
-        after values ≡ afterwards k (before values) (in_front (distinct_votes (before votes)) (before values)) }
-    ensures counts { let k = tally_refusal (before votes) (length (before values)) (length (before counts)) in
-        after counts ≡ afterwards k (before counts) (in_front (vote_counts (before votes)) (before counts)) }
+    ensures answer { tally_answer result ≡ tallied votes.now (length values.old) (length counts.old) }
+    ensures values { let k = tally_refusal votes.now (length values.old) (length counts.old) in
+        values.new ≡ afterwards k values.old (in_front (distinct_votes votes.now) values.old) }
+    ensures counts { let k = tally_refusal votes.now (length values.old) (length counts.old) in
+        counts.new ≡ afterwards k counts.old (in_front (vote_counts votes.now) counts.old) }
 {
     let k = refuse(votes, values.len(), counts.len());
     if k != 0 {

@@ -1,6 +1,5 @@
 // The announced votes of an accepted record.
 ghost use Rattle.std.specs.Prelude.{false, [], ◌≡◌, length};
-ghost use Rattle.laws.specs.Lent.{before, after};
 ghost use Rattle.protocol.specs.Answers.{answer_of, written_answer};
 ghost use Rattle.protocol.specs.Refusals.{afterwards};
 ghost use Rattle.protocol.specs.Judging.{first_fault};
@@ -13,7 +12,7 @@ use protocol::{Parameters, Written};
 // Reads the announced votes of a record that stands into a slice of one number a ballot.
 pub fn read_votes(bytes: &[u8], p: Parameters, out: &mut [u32])
     requires { VotesReady p bytes.now (length out.old) }
-    ensures { after out ≡ announced_votes (before bytes) }
+    ensures { out.new ≡ announced_votes bytes.now }
 {
     wire::fill_numbers(bytes, layout::at_vote(p, 0) + 3, 7, out);
 }
@@ -21,9 +20,9 @@ pub fn read_votes(bytes: &[u8], p: Parameters, out: &mut [u32])
 // The announced votes of a record that is known to be accepted.
 fn write_votes(bytes: &[u8], out: &mut [u32]) -> Written
     requires { first_fault false bytes.now ≡ Found.Nothing }
-    ensures answer { written_answer result ≡ answer_of (announced_refusal (before bytes) (length (before out))) [] }
-    ensures output { let k = announced_refusal (before bytes) (length (before out)) in
-        after out ≡ afterwards k (before out) (announced_votes (before bytes)) }
+    ensures answer { written_answer result ≡ answer_of (announced_refusal bytes.now (length out.old)) [] }
+    ensures output { let k = announced_refusal bytes.now (length out.old) in
+        out.new ≡ afterwards k out.old (announced_votes bytes.now) }
 {
     let p = layout::parameters(bytes);
     if out.len() != p.ballots {
@@ -35,9 +34,9 @@ fn write_votes(bytes: &[u8], out: &mut [u32]) -> Written
 
 // Entry: the votes that an accepted record announces, into a slice of one number a ballot.
 pub fn announced_votes(bytes: &[u8], out: &mut [u32]) -> Written
-    ensures answer { written_answer result ≡ answer_of (announced_refusal (before bytes) (length (before out))) [] }
-    ensures output { let k = announced_refusal (before bytes) (length (before out)) in
-        after out ≡ afterwards k (before out) (announced_votes (before bytes)) }
+    ensures answer { written_answer result ≡ answer_of (announced_refusal bytes.now (length out.old)) [] }
+    ensures output { let k = announced_refusal bytes.now (length out.old) in
+        out.new ≡ afterwards k out.old (announced_votes bytes.now) }
 {
     match verifier::first_fault(bytes, false) {
         Found::Fault(k, _) => Written::Refused(k),

@@ -1,7 +1,8 @@
 // The rules of each command that need no hash of an opening: each function answers the number of the first rule broken, or 0. Every
 // one is told where its command starts, and that the whole of it is there.
+#![tactic(auto)]
+
 ghost use Rattle.std.specs.Prelude.{false, ◌≡◌, ◌+◌, ◌≤◌, ◌<◌, length};
-ghost use Rattle.laws.specs.Lent.{before};
 ghost use Rattle.protocol.specs.Layout.{first_width, at_ballot, at_entry, at_second_dice, at_vote};
 ghost use Rattle.protocol.specs.Record.{parameters_of};
 ghost use Rattle.protocol.specs.Rules.{first_rules, ballot_rules, entry_rules, first_dice_rules, link_rules, second_dice_rules, vote_rules};
@@ -12,7 +13,7 @@ use protocol::Parameters;
 // 01 and 0C: M, n and m in their limits, 3.
 pub fn first_rules(bytes: &[u8]) -> u32
     requires { first_width (parameters_of bytes.now) ≤ length bytes.now }
-    ensures { result ≡ first_rules (before bytes) }
+    ensures { result ≡ first_rules bytes.now }
 {
     if !limits::in_limits(layout::parameters(bytes)) {
         return 3;
@@ -23,7 +24,7 @@ pub fn first_rules(bytes: &[u8]) -> u32
 // 02: an id above the one before, 5. Rule 21 needs all ballots before, and is `copies`'.
 pub fn ballot_rules(p: Parameters, bytes: &[u8], at: usize, j: usize) -> u32
     requires { (at ≡ at_ballot p j) × (at + 197 ≤ length bytes.now) }
-    ensures { result ≡ ballot_rules p (before bytes) false j }
+    ensures { result ≡ ballot_rules p bytes.now false j }
 {
     if j == 0 {
         return 0;
@@ -39,7 +40,7 @@ pub fn ballot_rules(p: Parameters, bytes: &[u8], at: usize, j: usize) -> u32
 // 03: list and position, 4.
 pub fn entry_rules(p: Parameters, bytes: &[u8], at: usize, l: usize, i: usize) -> u32
     requires { (at ≡ at_entry p l i) × (at + 196 ≤ length bytes.now) }
-    ensures { result ≡ entry_rules p (before bytes) l i }
+    ensures { result ≡ entry_rules p bytes.now l i }
 {
     if wire::read1(bytes, at + 1) as usize != l {
         return 4;
@@ -53,7 +54,7 @@ pub fn entry_rules(p: Parameters, bytes: &[u8], at: usize, l: usize, i: usize) -
 // 04: dice, 6; the mask's shape, 7; as drawn, the drawn mask, 8. `text` is what the mask is drawn from.
 pub fn first_dice_rules(p: Parameters, bytes: &[u8], at: usize, drawn: bool, text: &[u8]) -> u32
     requires { FirstDiceReady p bytes.now at drawn text.now }
-    ensures { result ≡ first_dice_rules p (before bytes) drawn }
+    ensures { result ≡ first_dice_rules p bytes.now drawn }
 {
     if !limits::fair_dice(bytes, at + 1) {
         return 6;
@@ -74,7 +75,7 @@ pub fn first_dice_rules(p: Parameters, bytes: &[u8], at: usize, drawn: bool, tex
 // took; the stage that reads the links sets them.
 pub fn link_rules(p: Parameters, bytes: &[u8], at: usize, l: usize, j: usize, marks: &[bool]) -> u32
     requires { LinkReady p bytes.now at l j marks.now }
-    ensures { result ≡ link_rules p (before bytes) l j }
+    ensures { result ≡ link_rules p bytes.now l j }
 {
     if wire::read1(bytes, at + 1) as usize != l {
         return 4;
@@ -98,7 +99,7 @@ pub fn link_rules(p: Parameters, bytes: &[u8], at: usize, l: usize, j: usize, ma
 // 06: dice, 6.
 pub fn second_dice_rules(p: Parameters, bytes: &[u8], at: usize) -> u32
     requires { (at ≡ at_second_dice p) × (at + 31 ≤ length bytes.now) }
-    ensures { result ≡ second_dice_rules p (before bytes) }
+    ensures { result ≡ second_dice_rules p bytes.now }
 {
     let fair = limits::fair_dice(bytes, at + 1);
     if !fair {
@@ -110,7 +111,7 @@ pub fn second_dice_rules(p: Parameters, bytes: &[u8], at: usize) -> u32
 // 09: index, 4; a number below M, 10; no smaller than the one before, 15.
 pub fn vote_rules(p: Parameters, bytes: &[u8], at: usize, i: usize) -> u32
     requires { (at ≡ at_vote p i) × (at + 7 ≤ length bytes.now) }
-    ensures { result ≡ vote_rules p (before bytes) i }
+    ensures { result ≡ vote_rules p bytes.now i }
 {
     if wire::read2(bytes, at + 1) as usize != i {
         return 4;

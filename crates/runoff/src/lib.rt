@@ -1,8 +1,9 @@
 // Ranked votes by instant runoff.
+#![tactic(auto)]
+
 pub mod page;
 
 ghost use Rattle.std.specs.Prelude.{◌++◌, ◌≡◌, ◌-◌, ◌≤◌, length, take, drop, set};
-ghost use Rattle.laws.specs.Lent.{before};
 ghost use Rattle.laws.specs.Sums.{one_if};
 ghost use Rattle.laws.specs.Tables.{tabulate};
 ghost use Rattle.laws.specs.Tests.{equal, differ, ◌or◌, pick};
@@ -17,7 +18,7 @@ pub const MOST_CANDIDATES: usize = 9;
 // A candidate's entry in the table: the count in the last round in which the candidate stood, and the round of leaving, 0 if still
 // standing.
 #[repr(C)]
-#[derive(Drop)]
+#[derive(Clone, Copy)]
 pub struct Candidate {
     pub count: u64,
     pub left: u32,
@@ -25,7 +26,7 @@ pub struct Candidate {
 
 // How the rounds stand: of each candidate, k at k - 1, the last count and the round of leaving, 0 if still standing; how many rounds there
 // were; the winner, 0 for none; whether it is over.
-#[derive(Drop)]
+#[derive(Clone, Copy)]
 pub struct Standings {
     pub counts: [u64; MOST_CANDIDATES],
     pub left: [u32; MOST_CANDIDATES],
@@ -35,14 +36,14 @@ pub struct Standings {
 }
 
 // The answer of the runoff: the winner, 0 for none, and how many votes are blank and spoiled.
-#[derive(Drop)]
+#[derive(Clone, Copy)]
 pub enum Runoff {
     Counted(u32, u64, u64),
     Refused(u32),
 }
 
 // What the runoff answers, and how many entries of which table it fills.
-#[derive(Drop)]
+#[derive(Clone, Copy)]
 pub struct Report {
     pub answer: Runoff,
     pub entries: usize,
@@ -54,7 +55,7 @@ pub struct Report {
 // The candidate k where k stands, else the one given.
 fn standing_or(left: &[u32; MOST_CANDIDATES], k: usize, other: usize) -> usize
     requires { (1 ≤ k) × (k ≤ 9) }
-    ensures { result ≡ pick (standing (before left) k) k other }
+    ensures { result ≡ pick (standing left.now k) k other }
 {
     if left[k - 1] == 0 {
         return k;
@@ -66,7 +67,7 @@ fn standing_or(left: &[u32; MOST_CANDIDATES], k: usize, other: usize) -> usize
 // of the ranking.
 fn counts_for(vote: u32, candidates: usize, left: &[u32; MOST_CANDIDATES]) -> usize
     requires { candidates ≤ 9 }
-    ensures { (result ≡ counts_for candidates (before left) vote) × (result ≤ 9) }
+    ensures { (result ≡ counts_for candidates left.now vote) × (result ≤ 9) }
 {
     let mut named = [false; MOST_CANDIDATES + 1];
     let mut first: usize = 0;
@@ -96,7 +97,7 @@ fn count_round(
     left: &[u32; MOST_CANDIDATES],
 ) -> [u64; MOST_CANDIDATES + 1]
     requires { candidates ≤ 9 }
-    ensures { result ≡ tabulate (definitions.support candidates (before votes) (before left)) 10 }
+    ensures { result ≡ tabulate (definitions.support candidates votes.now left.now) 10 }
 {
     let mut counts = [0u64; MOST_CANDIDATES + 1];
     let mut i: usize = 0;
@@ -111,7 +112,7 @@ fn count_round(
 // The candidate with more than half of the votes that count, 0 for none.
 fn winner_among(all: u64, counts: &[u64; MOST_CANDIDATES + 1], candidates: usize) -> usize
     requires { candidates ≤ 9 }
-    ensures { (result ≡ definitions.winner_among all (item (before counts)) candidates) × (result ≤ candidates) }
+    ensures { (result ≡ definitions.winner_among all (item counts.now) candidates) × (result ≤ candidates) }
 {
     let mut winner: usize = 0;
     let mut n: usize = 0;
@@ -135,7 +136,7 @@ fn fewer_of(
     other: usize,
 ) -> usize
     requires { ((1 ≤ k) × (k ≤ 9)) × (other ≤ 9) }
-    ensures { result ≡ definitions.fewer (before left) (item (before counts)) k other }
+    ensures { result ≡ definitions.fewer left.now (item counts.now) k other }
 {
     if left[k - 1] != 0 {
         return other;
@@ -156,7 +157,7 @@ fn fewest_among(
     candidates: usize,
 ) -> usize
     requires { candidates ≤ 9 }
-    ensures { (result ≡ definitions.fewest_among (before left) (item (before counts)) candidates) × (result ≤ candidates) }
+    ensures { (result ≡ definitions.fewest_among left.now (item counts.now) candidates) × (result ≤ candidates) }
 {
     let mut fewest: usize = 0;
     let mut n: usize = 0;
@@ -193,7 +194,7 @@ fn counts_after(
     round: &[u64; MOST_CANDIDATES + 1],
     left: &[u32; MOST_CANDIDATES],
 ) -> [u64; MOST_CANDIDATES]
-    ensures { result ≡ definitions.last_counts (before left) (item (before round)) (before counts) }
+    ensures { result ≡ definitions.last_counts left.now (item round.now) counts.now }
 {
     let mut after = [0u64; MOST_CANDIDATES];
     let mut i: usize = 0;
@@ -217,7 +218,7 @@ fn is_decided(all: u64, winner: usize) -> bool
 // One round more.
 pub(crate) fn next(votes: &[u32], candidates: usize, s: Standings) -> Standings
     requires { (candidates ≤ 9) × (s.rounds ≤ 9) }
-    ensures { result ≡ definitions.next candidates (before votes) s }
+    ensures { result ≡ definitions.next candidates votes.now s }
 {
     let left = s.left;
     let counts = count_round(votes, candidates, &left);
@@ -263,7 +264,7 @@ pub(crate) fn start() -> Standings
 // All rounds. There are at most as many as candidates.
 fn all_rounds(votes: &[u32], candidates: usize) -> Standings
     requires { candidates ≤ 9 }
-    ensures { result ≡ definitions.result candidates (before votes) }
+    ensures { result ≡ definitions.result candidates votes.now }
 {
     let mut s = start();
     let mut n: usize = 0;
@@ -303,7 +304,7 @@ fn is_spoiled(vote: u32, candidates: usize) -> bool
 
 // How many votes are blank.
 pub(crate) fn blank_votes(votes: &[u32]) -> u64
-    ensures { result ≡ definitions.blank_votes (before votes) }
+    ensures { result ≡ definitions.blank_votes votes.now }
 {
     let mut blank: u64 = 0;
     let mut i: usize = 0;
@@ -317,7 +318,7 @@ pub(crate) fn blank_votes(votes: &[u32]) -> u64
 // How many votes are spoiled.
 pub(crate) fn spoiled_votes(votes: &[u32], candidates: usize) -> u64
     requires { candidates ≤ 9 }
-    ensures { result ≡ definitions.spoiled_votes candidates (before votes) }
+    ensures { result ≡ definitions.spoiled_votes candidates votes.now }
 {
     let mut spoiled: u64 = 0;
     let mut i: usize = 0;
@@ -367,7 +368,7 @@ pub fn refuse(candidates: usize, table_len: usize) -> u32
 
 // The answer, and the entries that a table of so many is filled with: none where it is refused.
 fn run(votes: &[u32], candidates: usize, table_len: usize) -> Report
-    ensures { Ran candidates (before votes) table_len result }
+    ensures { Ran candidates votes.now table_len result }
 {
     let k = refuse(candidates, table_len);
     if k != 0 {
@@ -403,8 +404,8 @@ fn fill(table: &mut [Candidate], from: [Candidate; MOST_CANDIDATES], k: usize)
 
 // Entry: the winner of ranked votes by instant runoff, into a lent table each candidate's last count and round of leaving.
 pub fn run_off(votes: &[u32], candidates: usize, table: &mut [Candidate]) -> Runoff
-    ensures answer { definitions.runoff_answer result ≡ definitions.ran_off candidates (before votes) (length table.old) }
-    ensures table { table.new ≡ definitions.table_after candidates (before votes) table.old }
+    ensures answer { definitions.runoff_answer result ≡ definitions.ran_off candidates votes.now (length table.old) }
+    ensures table { table.new ≡ definitions.table_after candidates votes.now table.old }
 {
     let ran = run(votes, candidates, table.len());
     fill(table, ran.table, ran.entries);

@@ -1,6 +1,5 @@
 // The page of a runoff: its rounds as a table, then the winner and what is counted apart.
 ghost use Rattle.std.specs.Prelude.{◌++◌, ◌≡◌, ◌+◌, ◌*◌, ◌≤◌, ◌<◌, length};
-ghost use Rattle.laws.specs.Lent.{before, after};
 ghost use Rattle.laws.specs.Writing.{Went};
 ghost use Rattle.runoff.specs.Rounds.{winner};
 ghost use Rattle.runoff.specs.Rounds as rounds;
@@ -12,7 +11,7 @@ use crate::{MOST_CANDIDATES, Standings, blank_votes, next, spoiled_votes, start}
 // Writes a candidate's number from a place on, and answers the next place.
 fn put_named(out: &mut [u8], at: usize, k: u32) -> usize
     requires { at + 11 ≤ length out.old }
-    ensures { Went (before out) at (definitions.named k) (after out) result }
+    ensures { Went out.old at (definitions.named k) out.new result }
 {
     let next = wire::put1(out, at, 35);
     decimals::put_decimal(out, next, k)
@@ -21,7 +20,7 @@ fn put_named(out: &mut [u8], at: usize, k: u32) -> usize
 // The same, or a word where there is no candidate.
 fn put_named_or(out: &mut [u8], at: usize, word: &[u8], k: u32) -> usize
     requires { (at + 11 ≤ length out.old) × (length word.now ≤ 11) }
-    ensures { Went (before out) at (definitions.named_or (before word) k) (after out) result }
+    ensures { Went out.old at (definitions.named_or word.now k) out.new result }
 {
     if k == 0 {
         return wire::copy(out, at, word);
@@ -32,7 +31,7 @@ fn put_named_or(out: &mut [u8], at: usize, word: &[u8], k: u32) -> usize
 // Writes the line over the columns.
 fn put_header(out: &mut [u8], at: usize, candidates: usize) -> usize
     requires { (candidates ≤ 9) × (at + line_most ≤ length out.old) }
-    ensures { Went (before out) at (definitions.header_line candidates) (after out) result }
+    ensures { Went out.old at (definitions.header_line candidates) out.new result }
 {
     let mut next = wire::copy(out, at, b"ROUND");
     let mut i: usize = 0;
@@ -45,7 +44,7 @@ fn put_header(out: &mut [u8], at: usize, candidates: usize) -> usize
 
 fn put_header_cell(out: &mut [u8], at: usize, i: usize) -> usize
     requires { (i < 9) × (at + cell_most ≤ length out.old) }
-    ensures { Went (before out) at (definitions.header_cell i) (after out) result }
+    ensures { Went out.old at (definitions.header_cell i) out.new result }
 {
     let next = wire::put1(out, at, 9);
     put_named(out, next, (i + 1) as u32)
@@ -54,7 +53,7 @@ fn put_header_cell(out: &mut [u8], at: usize, i: usize) -> usize
 // Writes the count of who stood in a round, a dash for who has left before.
 fn put_count_cell(out: &mut [u8], at: usize, round: u32, left: u32, count: u32) -> usize
     requires { at + cell_most ≤ length out.old }
-    ensures { Went (before out) at (definitions.count_cell round left count) (after out) result }
+    ensures { Went out.old at (definitions.count_cell round left count) out.new result }
 {
     let next = wire::put1(out, at, 9);
     if left == 0 {
@@ -69,7 +68,7 @@ fn put_count_cell(out: &mut [u8], at: usize, round: u32, left: u32, count: u32) 
 // Writes the cells of a round's counts.
 fn put_counts(out: &mut [u8], at: usize, candidates: usize, s: Standings) -> usize
     requires { RoundReady candidates s × (at + cell_most * 9 ≤ length out.old) }
-    ensures { Went (before out) at (definitions.count_cells candidates s) (after out) result }
+    ensures { Went out.old at (definitions.count_cells candidates s) out.new result }
 {
     let round = s.rounds;
     let left = s.left;
@@ -86,7 +85,7 @@ fn put_counts(out: &mut [u8], at: usize, candidates: usize, s: Standings) -> usi
 // Who has left in a round; 0 for none.
 fn leaver_among(left: &[u32; MOST_CANDIDATES], round: u32, candidates: usize) -> usize
     requires { candidates ≤ 9 }
-    ensures { (result ≡ definitions.leaver_among (before left) round candidates) × (result ≤ candidates) }
+    ensures { (result ≡ definitions.leaver_among left.now round candidates) × (result ≤ candidates) }
 {
     let mut leaver: usize = 0;
     let mut n: usize = 0;
@@ -104,7 +103,7 @@ fn leaver_among(left: &[u32; MOST_CANDIDATES], round: u32, candidates: usize) ->
 // Writes the line of a round, as it left the standings.
 fn put_round(out: &mut [u8], at: usize, candidates: usize, s: Standings) -> usize
     requires { RoundReady candidates s × (at + line_most ≤ length out.old) }
-    ensures { Went (before out) at (definitions.round_line candidates s) (after out) result }
+    ensures { Went out.old at (definitions.round_line candidates s) out.new result }
 {
     let first = decimals::put_decimal(out, at, s.rounds);
     let counted = put_counts(out, first, candidates, s);
@@ -118,7 +117,7 @@ fn put_round(out: &mut [u8], at: usize, candidates: usize, s: Standings) -> usiz
 // Writes the line of the winner.
 fn put_winner(out: &mut [u8], at: usize, k: u32) -> usize
     requires { at + line_most ≤ length out.old }
-    ensures { Went (before out) at (definitions.winner_line k) (after out) result }
+    ensures { Went out.old at (definitions.winner_line k) out.new result }
 {
     let word = wire::copy(out, at, b"WINNER\t");
     let end = put_named_or(out, word, b"NONE", k);
@@ -128,7 +127,7 @@ fn put_winner(out: &mut [u8], at: usize, k: u32) -> usize
 // Writes a word, a number and the line's end.
 fn put_count(out: &mut [u8], at: usize, word: &[u8], count: u32) -> usize
     requires { (at + line_most ≤ length out.old) × (length word.now ≤ 8) }
-    ensures { Went (before out) at (definitions.count_line (before word) count) (after out) result }
+    ensures { Went out.old at (definitions.count_line word.now count) out.new result }
 {
     let number = wire::copy(out, at, word);
     let end = decimals::put_decimal(out, number, count);
@@ -138,8 +137,8 @@ fn put_count(out: &mut [u8], at: usize, word: &[u8], count: u32) -> usize
 // Writes the lines of all rounds and of the winner.
 fn put_rounds(votes: &[u32], candidates: usize, out: &mut [u8], at: usize) -> usize
     requires { LinesReady candidates (length votes.now) most_round_lines (length out.old) at }
-    ensures { let lines = definitions.round_lines candidates (before votes) candidates rounds.start in
-        Went (before out) at (lines ++ definitions.winner_line (winner candidates (before votes))) (after out) result }
+    ensures { let lines = definitions.round_lines candidates votes.now candidates rounds.start in
+        Went out.old at (lines ++ definitions.winner_line (winner candidates votes.now)) out.new result }
 {
     let mut to = at;
     let mut s = start();
@@ -160,7 +159,7 @@ fn put_rounds(votes: &[u32], candidates: usize, out: &mut [u8], at: usize) -> us
 // place.
 pub fn put_lines(votes: &[u32], candidates: usize, out: &mut [u8], at: usize) -> usize
     requires { LinesReady candidates (length votes.now) most_lines (length out.old) at }
-    ensures { Went (before out) at (definitions.runoff_lines candidates (before votes)) (after out) result }
+    ensures { Went out.old at (definitions.runoff_lines candidates votes.now) out.new result }
 {
     let header = put_header(out, at, candidates);
     let counted = put_rounds(votes, candidates, out, header);

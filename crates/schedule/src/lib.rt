@@ -1,15 +1,16 @@
 // The calendar of an election: its four windows, by the election day and the holidays.
+#![tactic(auto)]
+
 pub mod dates;
 pub mod page;
 
 ghost use Rattle.std.specs.Prelude.{◌≡◌, ◌+◌, ◌≤◌};
-ghost use Rattle.laws.specs.Lent.{before};
 ghost use Rattle.schedule.specs.Windows as definitions;
 ghost use Rattle.schedule.specs.Told.{weekday_from, from_second, from_first, from_next, moved, planned_on};
 ghost use Rattle.schedule.specs.Told as told;
 
 // A date of the Gregorian calendar, where it exists.
-#[derive(Drop)]
+#[derive(Clone, Copy)]
 pub struct Date {
     pub year: u32,
     pub month: u32,
@@ -18,7 +19,7 @@ pub struct Date {
 
 // By their numbers, 2000-01-01 being 0: the next working day after the election, the days of the first and of the second dice, and the
 // last day of the objections.
-#[derive(Drop)]
+#[derive(Clone, Copy)]
 pub struct Days {
     pub next: u32,
     pub first: u32,
@@ -27,14 +28,14 @@ pub struct Days {
 }
 
 // In minutes from 2000-01-01 00:00; the end is not in it.
-#[derive(Drop)]
+#[derive(Clone, Copy)]
 pub struct Window {
     pub start: u64,
     pub end: u64,
 }
 
 // Polling, first dice, second dice, objections.
-#[derive(Drop)]
+#[derive(Clone, Copy)]
 pub struct Windows {
     pub polling: Window,
     pub first: Window,
@@ -43,21 +44,21 @@ pub struct Windows {
 }
 
 // The answer of the calendar.
-#[derive(Drop)]
+#[derive(Clone, Copy)]
 pub enum Schedule {
     Set(Windows),
     Refused(u32),
 }
 
 // The window that a minute is in: 1 polling, 2 first dice, 3 second dice, 4 objections, 0 none.
-#[derive(Drop)]
+#[derive(Clone, Copy)]
 pub enum Minute {
     Window(u32),
     Refused(u32),
 }
 
 // The days of the windows, or the number of a refusal.
-#[derive(Drop)]
+#[derive(Clone, Copy)]
 pub enum Planned {
     On(Days),
     Refused(u32),
@@ -136,7 +137,7 @@ fn move_days(s: Days, holiday: u32) -> Days
 // so far.
 fn plan_on(day: u32, holidays: &[u32]) -> Planned
     requires { day ≤ 73048 }
-    ensures { result ≡ planned_on day (before holidays) }
+    ensures { result ≡ planned_on day holidays.now }
 {
     let mut s = from_next(weekday_from(day + 1));
     let mut least: u32 = 0;
@@ -160,7 +161,7 @@ fn plan_on(day: u32, holidays: &[u32]) -> Planned
 
 // The days of the windows of an election on this date.
 pub(crate) fn plan(election: Date, holidays: &[u32]) -> Planned
-    ensures { result ≡ told.plan election (before holidays) }
+    ensures { result ≡ told.plan election holidays.now }
 {
     if !dates::exists(election) {
         return Planned::Refused(22);
@@ -203,7 +204,7 @@ fn windows_on(day: u32, s: Days) -> Windows
 
 // Entry: the four windows of an election.
 pub fn four_windows(election: Date, holidays: &[u32]) -> Schedule
-    ensures { definitions.schedule_answer result ≡ definitions.scheduled election (before holidays) }
+    ensures { definitions.schedule_answer result ≡ definitions.scheduled election holidays.now }
 {
     match plan(election, holidays) {
         Planned::On(s) => Schedule::Set(windows_on(dates::day_number(election), s)),
@@ -244,7 +245,7 @@ fn window_of(w: Windows, minute: u64) -> u32
 
 // Entry: the window of an election that a minute is in.
 pub fn window_at(election: Date, holidays: &[u32], minute: u64) -> Minute
-    ensures { definitions.minute_answer result ≡ definitions.window_at election (before holidays) minute }
+    ensures { definitions.minute_answer result ≡ definitions.window_at election holidays.now minute }
 {
     match four_windows(election, holidays) {
         Schedule::Set(w) => Minute::Window(window_of(w, minute)),

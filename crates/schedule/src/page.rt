@@ -1,6 +1,5 @@
 // The page of the calendar: a line for each window, or for the refusal.
 ghost use Rattle.std.specs.Prelude.{◌≡◌, ◌+◌, ◌*◌, ◌≤◌, ◌<◌, length, take, drop};
-ghost use Rattle.laws.specs.Lent.{before, after};
 ghost use Rattle.laws.specs.Writing.{Went};
 ghost use Rattle.protocol.specs.Results.{in_front};
 ghost use Rattle.schedule.specs.Working.{weekday};
@@ -16,7 +15,7 @@ pub const LONGEST_PAGE: usize = 4 * (12 + 20 + 1 + 20 + 1);
 // Writes a number in this many decimal digits from a place on, and answers the next place: all digits but the last, then the last.
 fn put_padded(out: &mut [u8], at: usize, digits: usize, x: u32) -> usize
     requires { at + digits ≤ length out.old }
-    ensures { Went (before out) at (definitions.padded digits x) (after out) result }
+    ensures { Went out.old at (definitions.padded digits x) out.new result }
 {
     if digits == 0 {
         return at;
@@ -28,7 +27,7 @@ fn put_padded(out: &mut [u8], at: usize, digits: usize, x: u32) -> usize
 // Writes three characters of names that are three long each: those of name w, the first being 0.
 fn put_name(out: &mut [u8], at: usize, names: &[u8], w: usize) -> usize
     requires { NameReady w at (length names.now) (length out.old) }
-    ensures { Went (before out) at (take 3 (drop (3 * w) (before names))) (after out) result }
+    ensures { Went out.old at (take 3 (drop (3 * w) names.now)) out.new result }
 {
     let from = 3 * w;
     let to = from + 3;
@@ -38,7 +37,7 @@ fn put_name(out: &mut [u8], at: usize, names: &[u8], w: usize) -> usize
 // Writes the name of a day of the week.
 fn put_weekday(out: &mut [u8], at: usize, day: u32) -> usize
     requires { (day < 73414) × (at + 3 ≤ length out.old) }
-    ensures { Went (before out) at (definitions.weekday_text (weekday day)) (after out) result }
+    ensures { Went out.old at (definitions.weekday_text (weekday day)) out.new result }
 {
     let w = ((day + 5) % 7) as usize;
     put_name(out, at, b"MonTueWedThuFriSatSun", w)
@@ -47,7 +46,7 @@ fn put_weekday(out: &mut [u8], at: usize, day: u32) -> usize
 // Writes a date as in 2026-03-31.
 fn put_date(out: &mut [u8], at: usize, t: Date) -> usize
     requires { at + 10 ≤ length out.old }
-    ensures { Went (before out) at (definitions.date_text t) (after out) result }
+    ensures { Went out.old at (definitions.date_text t) out.new result }
 {
     let year = put_padded(out, at, 4, t.year);
     let dash = wire::put1(out, year, 45);
@@ -59,7 +58,7 @@ fn put_date(out: &mut [u8], at: usize, t: Date) -> usize
 // Writes a day with its hour, as in Tue 2026-03-31 08:00.
 fn put_moment(out: &mut [u8], at: usize, day: u32, hour: u32) -> usize
     requires { (day < 73414) × (at + moment_most ≤ length out.old) }
-    ensures { Went (before out) at (definitions.moment_text day hour) (after out) result }
+    ensures { Went out.old at (definitions.moment_text day hour) out.new result }
 {
     let name = put_weekday(out, at, day);
     let space = wire::put1(out, name, 32);
@@ -72,7 +71,7 @@ fn put_moment(out: &mut [u8], at: usize, day: u32, hour: u32) -> usize
 // Writes a minute that starts an hour.
 fn put_start(out: &mut [u8], at: usize, minute: u64) -> usize
     requires { (minute ≤ 105264000) × (at + moment_most ≤ length out.old) }
-    ensures { Went (before out) at (definitions.start_text minute) (after out) result }
+    ensures { Went out.old at (definitions.start_text minute) out.new result }
 {
     let day = (minute / 1440) as u32;
     let hour = (minute % 1440 / 60) as u32;
@@ -82,7 +81,7 @@ fn put_start(out: &mut [u8], at: usize, minute: u64) -> usize
 // Writes a minute that ends an hour, by the day of the minute before it: midnight is 24:00.
 fn put_end(out: &mut [u8], at: usize, minute: u64) -> usize
     requires { EndReady minute at (length out.old) }
-    ensures { Went (before out) at (definitions.end_text minute) (after out) result }
+    ensures { Went out.old at (definitions.end_text minute) out.new result }
 {
     let last = minute - 1;
     let day = (last / 1440) as u32;
@@ -93,7 +92,7 @@ fn put_end(out: &mut [u8], at: usize, minute: u64) -> usize
 // Writes the line of a window.
 fn put_window(out: &mut [u8], at: usize, word: &[u8], w: Window) -> usize
     requires { LineReady word.now w at (length out.old) }
-    ensures { Went (before out) at (definitions.window_line (before word) w) (after out) result }
+    ensures { Went out.old at (definitions.window_line word.now w) out.new result }
 {
     let first = wire::copy(out, at, word);
     let start = put_start(out, first, w.start);
@@ -105,7 +104,7 @@ fn put_window(out: &mut [u8], at: usize, word: &[u8], w: Window) -> usize
 // Writes the lines of the four windows from the start on, and answers their length.
 fn put_windows(out: &mut [u8], w: Windows) -> usize
     requires { SmallWindows w × (page_most ≤ length out.old) }
-    ensures { Went (before out) 0 (definitions.window_lines w) (after out) result }
+    ensures { Went out.old 0 (definitions.window_lines w) out.new result }
 {
     let polling = put_window(out, 0, b"POLLING\t", w.polling);
     let first = put_window(out, polling, b"FIRST DICE\t", w.first);
@@ -115,8 +114,8 @@ fn put_windows(out: &mut [u8], w: Windows) -> usize
 
 // Writes the page of the calendar, and answers its length. What lies behind it is unchanged.
 pub fn put_page(election: Date, holidays: &[u32], out: &mut [u8; LONGEST_PAGE]) -> usize
-    ensures output { after out ≡ in_front (definitions.schedule_page election (before holidays)) (before out) }
-    ensures answer { result ≡ length (definitions.schedule_page election (before holidays)) }
+    ensures output { out.new ≡ in_front (definitions.schedule_page election holidays.now) out.old }
+    ensures answer { result ≡ length (definitions.schedule_page election holidays.now) }
 {
     match four_windows(election, holidays) {
         Schedule::Set(w) => put_windows(out, w),

@@ -1,6 +1,7 @@
 // The scrutineer's program: reads a record from standard input, judges it as drawn and writes the page of document 01.
+#![tactic(auto)]
+
 ghost use Rattle.std.specs.Prelude.{true, ◌++◌, ◌≡◌, ◌≤◌, length};
-ghost use Rattle.laws.specs.Lent.{before, after};
 ghost use Rattle.laws.specs.Writing.{Went};
 ghost use Rattle.protocol.specs.Record.{parameters_of};
 ghost use Rattle.protocol.specs.Judging.{first_fault};
@@ -20,9 +21,9 @@ const LONGEST_PAGE: usize = 9 + 20 + 22 * MOST_BALLOTS;
 // Writes the page of an accepted record, and answers its length.
 fn put_accepted(bytes: &[u8], out: &mut [u8]) -> usize
     requires { (first_fault true bytes.now ≡ Found.Nothing) × (page_most ≤ length out.old) }
-    ensures { let first = definitions.accepted_lines (parameters_of (before bytes)).form in
-        let lines = definitions.tally_lines (definitions.announced_votes (before bytes)) in
-        Went (before out) 0 (first ++ lines) (after out) result }
+    ensures { let first = definitions.accepted_lines (parameters_of bytes.now).form in
+        let lines = definitions.tally_lines (definitions.announced_votes bytes.now) in
+        Went out.old 0 (first ++ lines) out.new result }
 {
     let p = layout::parameters(bytes);
     let form = p.form;
@@ -33,8 +34,8 @@ fn put_accepted(bytes: &[u8], out: &mut [u8]) -> usize
 
 // Writes the page of what was read, and answers its length. What lies behind it is unchanged.
 pub fn put_page(bytes: &[u8], out: &mut [u8; LONGEST_PAGE]) -> usize
-    ensures output { after out ≡ definitions.in_front (definitions.page (before bytes)) (before out) }
-    ensures answer { result ≡ length (definitions.page (before bytes)) }
+    ensures output { out.new ≡ definitions.in_front (definitions.page bytes.now) out.old }
+    ensures answer { result ≡ length (definitions.page bytes.now) }
 {
     if LONGEST_RECORD < bytes.len() {
         return wire::copy(out, 0, b"TOO LONG\n");

@@ -5,7 +5,7 @@ use Prim.Native.Nat.{ℕ, zero, suc, ◌+◌, ◌-◌, ◌*◌, ◌/◌, ◌%◌
 use native.Mathlib.Nat.{not-suc-le-zero, add-zero, zero-add, zero-mul, suc-mul, div-add-mod', mod-lt}
 use native.Mathlib.Numerals.{add-one}
 use native.Mathlib.Omega.{arith}
-use lib.Bits.{bit_xor, xor_comm, xor_shifted, xor_zero_r, xor_block}
+use lib.Bits.{bit_xor, xor_comm, xor_shifted, xor_zero_r, xor_block as xor_of_blocks}
 use lib.Pow.{pow_pos}
 use lib.Dec.{lit<}
 use lib.ListN.{length, set, take, drop, replicate, length-append, length-set, length-replicate, length-drop, take-append-drop}
@@ -149,7 +149,7 @@ zeros (suc q) l n ys =
 -- both ends of the pad in one byte
 both_ends : (e : ℕ) → bit_xor (6 * 2 ^ e) (128 * 2 ^ e) ≡ 134 * 2 ^ e
 both_ends e =
-    ap₂ bit_xor (sym (add-zero (6 * 2 ^ e))) (sym (add-zero (128 * 2 ^ e))) ∙ xor_block e 6 128 0 0 (pow_pos e) (pow_pos e) ∙ add-zero (134 * 2 ^ e)
+    ap₂ bit_xor (sym (add-zero (6 * 2 ^ e))) (sym (add-zero (128 * 2 ^ e))) ∙ xor_of_blocks e 6 128 0 0 (pow_pos e) (pow_pos e) ∙ add-zero (134 * 2 ^ e)
 
 one_byte : (l : List ℕ) (n : ℕ) → n / 8 < length l → xor_byte l n 134 ≡ xor_byte (xor_byte l n 6) n 128
 unfolding xor_byte

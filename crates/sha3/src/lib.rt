@@ -1,14 +1,15 @@
 // SHA3-224 and SHA3-256 of FIPS 202, section 6.1, and the sponge that they share, over the rate in bytes.
+#![tactic(auto)]
+
 ghost use Rattle.std.specs.Prelude.{◌≡◌, ◌++◌, ◌+◌, ◌/◌, ◌≤◌, ◌<◌, length, take};
 ghost use Rattle.laws.specs.Chunks.{piece};
-ghost use Rattle.laws.specs.Lent.{before, after};
 ghost use Rattle.laws.specs.Tests.{same};
 ghost use Rattle.laws.specs.Writing.{Wrote};
 ghost use Rattle.sha3.specs.Sha3.{Rate, sponge, xor_byte, absorb_bytes, empty, padded, squeeze, digest, sha3_224, sha3_256};
 ghost use Rattle.sha3.specs.Word.{word_at, half_word_at, add_words, put_lane, keyed_row};
 
 // A sponge: the state, and how many bytes of the block at hand were added to it.
-#[derive(Drop)]
+#[derive(Clone, Copy)]
 pub struct Sponge {
     pub lanes: [u64; 25],
     pub fill: usize,
@@ -17,7 +18,7 @@ pub struct Sponge {
 // The eight bytes from `at` on, as a number, the lowest first.
 pub fn word(p: &[u8], at: usize) -> u64
     requires { at + 8 ≤ length p.now }
-    ensures { result ≡ word_at (before p) at }
+    ensures { result ≡ word_at p.now at }
 {
     let b0 = p[at] as u64;
     let b1 = p[at + 1] as u64;
@@ -33,7 +34,7 @@ pub fn word(p: &[u8], at: usize) -> u64
 // The four bytes from `at` on, as a number, the lowest first.
 fn half_word(p: &[u8], at: usize) -> u64
     requires { at + 4 ≤ length p.now }
-    ensures { result ≡ half_word_at (before p) at }
+    ensures { result ≡ half_word_at p.now at }
 {
     let c0 = p[at] as u64;
     let c1 = p[at + 1] as u64;
@@ -45,7 +46,7 @@ fn half_word(p: &[u8], at: usize) -> u64
 // b is added to byte n of the state.
 fn xor_byte(l: &mut [u64; 25], n: usize, b: u8)
     requires { n < 200 }
-    ensures { after l ≡ xor_byte (before l) n b }
+    ensures { l.new ≡ xor_byte l.old n b }
 {
     let k = n / 8;
     l[k] = l[k] ^ ((b as u64) << (n % 8 * 8));
@@ -54,7 +55,7 @@ fn xor_byte(l: &mut [u64; 25], n: usize, b: u8)
 // A whole block of the message, from `at` on, is added to the state, lane by lane.
 fn add_block(l: &mut [u64; 25], rate: usize, p: &[u8], at: usize)
     requires { Rate rate × (at + rate ≤ length p.now) }
-    ensures { after l ≡ add_words (before l) (before p) at (rate / 8) }
+    ensures { l.new ≡ add_words l.old p.now at (rate / 8) }
 {
     for k in 0..rate / 8 {
         let w = word(p, at + 8 * k);
@@ -66,7 +67,7 @@ fn add_block(l: &mut [u64; 25], rate: usize, p: &[u8], at: usize)
 // taken at once, and so are a lane and the lower half of one.
 fn absorb_into(l: &mut [u64; 25], filled: usize, rate: usize, p: &[u8]) -> usize
     requires { Rate rate × (filled < rate) }
-    ensures { (sponge (after l) result ≡ absorb_bytes rate (sponge (before l) filled) (before p)) × (result < rate) }
+    ensures { (sponge l.new result ≡ absorb_bytes rate (sponge l.old filled) p.now) × (result < rate) }
 {
     let mut fill = filled;
     let mut i: usize = 0;
@@ -103,7 +104,7 @@ fn absorb_into(l: &mut [u64; 25], filled: usize, rate: usize, p: &[u8]) -> usize
 // More of the message.
 pub fn absorb(s: Sponge, rate: usize, p: &[u8]) -> Sponge
     requires { Rate rate × (s.fill < rate) }
-    ensures { (result ≡ absorb_bytes rate s (before p)) × (result.fill < rate) }
+    ensures { (result ≡ absorb_bytes rate s p.now) × (result.fill < rate) }
 {
     let mut l = s.lanes;
     let fill = absorb_into(&mut l, s.fill, rate, p);
@@ -113,7 +114,7 @@ pub fn absorb(s: Sponge, rate: usize, p: &[u8]) -> Sponge
 // The eight bytes of a lane, the lowest first, go to `out` from `at` on.
 fn put_lane(out: &mut [u8], at: usize, lane: u64)
     requires { at + 8 ≤ length out.old }
-    ensures { after out ≡ put_lane (before out) at lane 8 }
+    ensures { out.new ≡ put_lane out.old at lane 8 }
 {
     for j in 0..8 {
         out[at + j] = ((lane >> (j * 8)) & 255) as u8;
@@ -123,7 +124,7 @@ fn put_lane(out: &mut [u8], at: usize, lane: u64)
 // The bytes of the state from `from` on go to `out`, which has those before them.
 fn put_rest(v: &[u64; 25], from: usize, out: &mut [u8])
     requires { (length out.old ≤ 200) × ((from ≤ length out.old) × (take from out.old ≡ squeeze v.now from)) }
-    ensures { after out ≡ squeeze (before v) (length (before out)) }
+    ensures { out.new ≡ squeeze v.now (length out.old) }
 {
     for i in from..out.len() {
         out[i] = ((v[i / 8] >> (i % 8 * 8)) & 255) as u8;
@@ -133,7 +134,7 @@ fn put_rest(v: &[u64; 25], from: usize, out: &mut [u8])
 // The first bytes of the state, as many as `out` has: whole lanes, and then the bytes of a last one that is cut.
 fn squeeze_into(v: &[u64; 25], out: &mut [u8])
     requires { length out.old ≤ 200 }
-    ensures { after out ≡ squeeze (before v) (length (before out)) }
+    ensures { out.new ≡ squeeze v.now (length out.old) }
 {
     let whole = out.len() / 8;
     for k in 0..whole {
@@ -145,7 +146,7 @@ fn squeeze_into(v: &[u64; 25], out: &mut [u8])
 // The digest of SHA3-256 that the first lanes of a state have goes to `out` from `at` on.
 pub fn put_digest(out: &mut [u8], at: usize, row: [u64; 5])
     requires { at + 32 ≤ length out.old }
-    ensures { Wrote (before out) at (squeeze row 32) (after out) }
+    ensures { Wrote out.old at (squeeze row 32) out.new }
 {
     put_lane(out, at, row[0]);
     put_lane(out, at + 8, row[1]);
@@ -157,7 +158,7 @@ pub fn put_digest(out: &mut [u8], at: usize, row: [u64; 5])
 // once.
 pub fn copy_key(out: &mut [u8], at: usize, key: &[u8])
     requires { (length key.now ≡ 32) × (at + 32 ≤ length out.old) }
-    ensures { Wrote (before out) at (before key) (after out) }
+    ensures { Wrote out.old at key.now out.new }
 {
     let w0 = word(key, 0);
     let w1 = word(key, 8);
@@ -169,7 +170,7 @@ pub fn copy_key(out: &mut [u8], at: usize, key: &[u8])
 // Whether the digest of SHA3-256 that the first lanes of a state have stands in s from `at` on; lanes are compared, no digest is written.
 pub fn has_digest(s: &[u8], at: usize, row: [u64; 5]) -> bool
     requires { at + 32 ≤ length s.now }
-    ensures { result ≡ same (squeeze row 32) (piece (before s) at 32) }
+    ensures { result ≡ same (squeeze row 32) (piece s.now at 32) }
 {
     let a = word(s, at) == row[0];
     let b = word(s, at + 8) == row[1];
@@ -181,8 +182,8 @@ pub fn has_digest(s: &[u8], at: usize, row: [u64; 5]) -> bool
 // The end of the message, in lanes that have `fill` bytes of the last block: suffix, pad and digest, which is as long as `out`.
 fn finish_into(l: &mut [u64; 25], fill: usize, rate: usize, out: &mut [u8])
     requires { Rate rate × ((fill < rate) × (length out.old ≤ rate)) }
-    ensures { let last = padded rate (sponge (before l) fill) in
-        (after l ≡ last) × (after out ≡ squeeze last (length (before out))) }
+    ensures { let last = padded rate (sponge l.old fill) in
+        (l.new ≡ last) × (out.new ≡ squeeze last (length out.old)) }
 {
     xor_byte(l, fill, 6);
     xor_byte(l, rate - 1, 128);
@@ -193,7 +194,7 @@ fn finish_into(l: &mut [u64; 25], fill: usize, rate: usize, out: &mut [u8])
 // The end of the message: suffix, pad and digest, which is as long as `out`.
 pub fn finish(s: Sponge, rate: usize, out: &mut [u8])
     requires { Rate rate × ((s.fill < rate) × (length out.old ≤ rate)) }
-    ensures { after out ≡ squeeze (padded rate s) (length (before out)) }
+    ensures { out.new ≡ squeeze (padded rate s) (length out.old) }
 {
     let mut l = s.lanes;
     finish_into(&mut l, s.fill, rate, out);
@@ -212,7 +213,7 @@ pub fn start() -> Sponge
 // The digest of m, as long as `out`.
 fn hash(rate: usize, m: &[u8], out: &mut [u8])
     requires { Rate rate × (length out.old ≤ rate) }
-    ensures { after out ≡ digest rate (length (before out)) (before m) }
+    ensures { out.new ≡ digest rate (length out.old) m.now }
 {
     let s = start();
     let mut l = s.lanes;
@@ -225,7 +226,7 @@ fn hash(rate: usize, m: &[u8], out: &mut [u8])
 // are 0, of which the compiler makes use.
 pub fn keyed_row(key: &[u8], low: u64, high: u64) -> [u64; 5]
     requires { length key.now ≡ 32 }
-    ensures { result ≡ keyed_row (before key) low high }
+    ensures { result ≡ keyed_row key.now low high }
 {
     let k0 = word(key, 0);
     let k1 = word(key, 8);
@@ -264,7 +265,7 @@ pub fn keyed_row(key: &[u8], low: u64, high: u64) -> [u64; 5]
 // The digest, as long as `out`, of a message in three parts.
 pub fn hash_parts(rate: usize, a: &[u8], b: &[u8], c: &[u8], out: &mut [u8])
     requires { Rate rate × (length out.old ≤ rate) }
-    ensures { after out ≡ digest rate (length (before out)) (before a ++ (before b ++ before c)) }
+    ensures { out.new ≡ digest rate (length out.old) (a.now ++ (b.now ++ c.now)) }
 {
     let s = start();
     let mut l = s.lanes;
@@ -276,14 +277,14 @@ pub fn hash_parts(rate: usize, a: &[u8], b: &[u8], c: &[u8], out: &mut [u8])
 
 // SHA3-224 of m.
 pub fn sha3_224(m: &[u8], out: &mut [u8; 28])
-    ensures { after out ≡ sha3_224 (before m) }
+    ensures { out.new ≡ sha3_224 m.now }
 {
     hash(144, m, out);
 }
 
 // SHA3-256 of m.
 pub fn sha3_256(m: &[u8], out: &mut [u8; 32])
-    ensures { after out ≡ sha3_256 (before m) }
+    ensures { out.new ≡ sha3_256 m.now }
 {
     hash(136, m, out);
 }

@@ -1,4 +1,6 @@
 // How a number is cut: into three shares that sum to it, and each of three numbers into two halves.
+#![tactic(auto)]
+
 ghost use Rattle.std.specs.Prelude.{◌≡◌, ℕ, ◌<◌};
 ghost use Rattle.protocol.specs.Terms.{item};
 ghost use Rattle.protocol.specs.Tablet as tablet;

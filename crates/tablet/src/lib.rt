@@ -1,6 +1,7 @@
 // The tablet: a vote in shares and halves, committed in a ballot command, and the receipt that is printed of it.
+#![tactic(auto)]
+
 ghost use Rattle.std.specs.Prelude.{[], ◌≡◌, length};
-ghost use Rattle.laws.specs.Lent.{before, after};
 ghost use Rattle.protocol.specs.Tablet as tablets;
 ghost use Rattle.protocol.specs.Tablet.{tablet_command, tablet_refusal};
 ghost use Rattle.protocol.specs.Answers.{written_answer, answer_of};
@@ -58,7 +59,7 @@ fn put_command(
     keys: &[u8],
 )
     requires { CastReady modulus vote x y u1 u2 u3 (length keys.now) (length out.old) }
-    ensures { after out ≡ tablet_command form modulus id vote x y u1 u2 u3 (before keys) }
+    ensures { out.new ≡ tablet_command form modulus id vote x y u1 u2 u3 keys.now }
 {
     let z = modular::less_two(modulus, vote, x, y);
     let value = [x, y, z];
@@ -76,7 +77,7 @@ fn put_command(
 // The receipt of a ballot command: its id and its hash.
 fn put_receipt(out: &mut [u8], id: u32, command: &[u8])
     requires { length out.old ≡ 32 }
-    ensures { after out ≡ tablets.receipt id (before command) }
+    ensures { out.new ≡ tablets.receipt id command.now }
 {
     let mut hash = [0u8; 28];
     sha3::sha3_224(command, &mut hash);
@@ -100,11 +101,11 @@ pub fn cast(
     receipt: &mut [u8],
 ) -> Written
     ensures { let refused = tablet_refusal modulus vote x y u1 u2 u3 in
-        let k = refused (length (before keys)) (length (before command)) (length (before receipt)) in
-        let posted = tablet_command form modulus id vote x y u1 u2 u3 (before keys) in
+        let k = refused (length keys.now) (length command.old) (length receipt.old) in
+        let posted = tablet_command form modulus id vote x y u1 u2 u3 keys.now in
         let printed = tablets.receipt id posted in
         (written_answer result ≡ answer_of k [])
-        × ((after command ≡ afterwards k (before command) posted) × (after receipt ≡ afterwards k (before receipt) printed)) }
+        × ((command.new ≡ afterwards k command.old posted) × (receipt.new ≡ afterwards k receipt.old printed)) }
 {
     let k = refuse(
         modulus,

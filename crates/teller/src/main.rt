@@ -1,7 +1,8 @@
 // The program that counts ranked votes: reads a record from standard input, judges it as drawn, and writes the rounds of the runoff among
 // as many candidates as its argument says.
+#![tactic(auto)]
+
 ghost use Rattle.std.specs.Prelude.{true, ◌++◌, ◌≡◌, ◌≤◌, min, length};
-ghost use Rattle.laws.specs.Lent.{before, after};
 ghost use Rattle.laws.specs.Writing.{Went};
 ghost use Rattle.protocol.specs.Terms.{most_ballots};
 ghost use Rattle.protocol.specs.Record.{parameters_of};
@@ -30,8 +31,8 @@ fn put_votes(
     out: &mut [u8],
 ) -> usize
     requires { VotesRoom p bytes.now candidates (length votes.old) (length out.old) }
-    ensures { let lines = definitions.runoff_lines candidates (announced_votes (before bytes)) in
-        Went (before out) 0 (accepted_lines p.form ++ lines) (after out) result }
+    ensures { let lines = definitions.runoff_lines candidates (announced_votes bytes.now) in
+        Went out.old 0 (accepted_lines p.form ++ lines) out.new result }
 {
     results::votes::read_votes(bytes, p, votes);
     let form = p.form;
@@ -50,8 +51,8 @@ fn numbers() -> [u32; MOST_BALLOTS]
 // Writes the page of an accepted record, or of the refusal of the number of candidates, and answers its length.
 fn put_counted(bytes: &[u8], candidates: usize, out: &mut [u8]) -> usize
     requires { (first_fault true bytes.now ≡ Found.Nothing) × (page_most ≤ length out.old) }
-    ensures { let page = definitions.counted_page candidates (parameters_of (before bytes)).form (announced_votes (before bytes)) in
-        Went (before out) 0 page (after out) result }
+    ensures { let page = definitions.counted_page candidates (parameters_of bytes.now).form (announced_votes bytes.now) in
+        Went out.old 0 page out.new result }
 {
     let k = runoff::refuse(candidates, candidates);
     if k != 0 {
@@ -65,8 +66,8 @@ fn put_counted(bytes: &[u8], candidates: usize, out: &mut [u8]) -> usize
 
 // Writes the page of what was read, and answers its length. What lies behind it is unchanged.
 pub fn put_page(bytes: &[u8], candidates: usize, out: &mut [u8; LONGEST_PAGE]) -> usize
-    ensures output { after out ≡ in_front (definitions.runoff_page candidates (before bytes)) (before out) }
-    ensures answer { result ≡ length (definitions.runoff_page candidates (before bytes)) }
+    ensures output { out.new ≡ in_front (definitions.runoff_page candidates bytes.now) out.old }
+    ensures answer { result ≡ length (definitions.runoff_page candidates bytes.now) }
 {
     if LONGEST_RECORD < bytes.len() {
         return wire::copy(out, 0, b"TOO LONG\n");
@@ -80,7 +81,7 @@ pub fn put_page(bytes: &[u8], candidates: usize, out: &mut [u8; LONGEST_PAGE]) -
 // ---- the argument
 
 // A number of candidates, every number above 9 being as good as 10; or no number.
-#[derive(Drop)]
+#[derive(Clone, Copy)]
 pub enum Argument {
     Number(usize),
     Otherwise,
@@ -97,7 +98,7 @@ fn at_most_ten(x: usize) -> usize
 
 // What an argument says, in decimal digits.
 pub fn said(argument: &[u8]) -> Argument
-    ensures { result ≡ said_by (before argument) }
+    ensures { result ≡ said_by argument.now }
 {
     if argument.len() == 0 {
         return Argument::Otherwise;

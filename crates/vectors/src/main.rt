@@ -1,5 +1,7 @@
 // Writes the SHA3-224 and SHA3-256 digests of the messages of NIST's examples for FIPS 202 and of messages whose lengths lie
 // around the two rates, a line for each. The file `stdout` has the digests that are due.
+#![tactic(auto)]
+
 ghost use Rattle.std.specs.Prelude.{◌<◌, ◌≤◌, length};
 ghost use Rattle.sha3.specs.Sha3.{Rate};
 

@@ -1,8 +1,9 @@
 // The verifier: judging a record plainly and as drawn, by the first command and then stage by stage.
+#![tactic(auto)]
+
 ghost use Rattle.std.specs.Prelude.{true, false, ◌≡◌, ◌-◌, ◌≤◌, ◌<◌, length};
 ghost use Rattle.laws.specs.Faults.{◌then◌};
 ghost use Rattle.laws.specs.Chunks.{piece};
-ghost use Rattle.laws.specs.Lent.{before};
 ghost use Rattle.sha3.specs.Sha3.{absorb_bytes};
 ghost use Rattle.protocol.specs.Answers.{verdict_answer};
 ghost use Rattle.protocol.specs.Record.{parameters_of};
@@ -20,7 +21,7 @@ use protocol::{Due, Parameters, Verdict};
 
 // The fault of the first command. No parameters are known yet, and of its form it needs the byte alone.
 pub fn first_command_fault(bytes: &[u8], drawn: bool) -> Found
-    ensures { result ≡ found drawn (parameters_of (before bytes)) (before bytes) Due.First }
+    ensures { result ≡ found drawn (parameters_of bytes.now) bytes.now Due.First }
 {
     let none = Parameters {
         form: layout::due_form(bytes),
@@ -36,7 +37,7 @@ pub fn first_command_fault(bytes: &[u8], drawn: bool) -> Found
 // The sponge that has taken in the record from one place up to another; as it was where nothing is drawn.
 fn take_in(bytes: &[u8], from: usize, to: usize, drawn: bool, s: sha3::Sponge) -> sha3::Sponge
     requires { (from ≤ to) × ((to ≤ length bytes.now) × (s.fill < 144)) }
-    ensures { (result.fill < 144) × (drawn ≡ true → result ≡ absorb_bytes 144 s (piece (before bytes) from (to - from))) }
+    ensures { (result.fill < 144) × (drawn ≡ true → result ≡ absorb_bytes 144 s (piece bytes.now from (to - from))) }
 {
     if drawn {
         return sha3::absorb(s, 144, &bytes[from..to]);
@@ -47,7 +48,7 @@ fn take_in(bytes: &[u8], from: usize, to: usize, drawn: bool, s: sha3::Sponge) -
 // Everything behind the first command. The sponge at the first dice is kept and goes on to the second.
 fn rest_faults(bytes: &[u8], p: Parameters, drawn: bool) -> Found
     requires { Started p bytes.now }
-    ensures { let r₀ = before bytes in
+    ensures { let r₀ = bytes.now in
         result ≡ part_one_faults drawn p r₀ then (part_two_faults drawn p r₀ then part_three_faults drawn p r₀) }
 {
     let one = part_one::part_one_faults(bytes, p, drawn);
@@ -66,7 +67,7 @@ fn rest_faults(bytes: &[u8], p: Parameters, drawn: bool) -> Found
 
 // The first fault of the parameters and of all ballots: as far as the receipt check reads.
 pub fn head_fault(bytes: &[u8]) -> Found
-    ensures { let r₀ = before bytes in
+    ensures { let r₀ = bytes.now in
         let p = parameters_of r₀ in
         result ≡ found false p r₀ Due.First then ballot_faults false p r₀ p.ballots }
 {
@@ -80,7 +81,7 @@ pub fn head_fault(bytes: &[u8]) -> Found
 
 // The first fault of a record, with the place where its command starts.
 pub fn first_fault(bytes: &[u8], drawn: bool) -> Found
-    ensures { result ≡ first_fault drawn (before bytes) }
+    ensures { result ≡ first_fault drawn bytes.now }
 {
     let f = first_command_fault(bytes, drawn);
     let Found::Nothing = f else {
@@ -90,7 +91,7 @@ pub fn first_fault(bytes: &[u8], drawn: bool) -> Found
 }
 
 fn judge(bytes: &[u8], drawn: bool) -> Verdict
-    ensures { verdict_answer result ≡ judged drawn (before bytes) }
+    ensures { verdict_answer result ≡ judged drawn bytes.now }
 {
     match first_fault(bytes, drawn) {
         Found::Nothing => Verdict::Accepted,
@@ -100,14 +101,14 @@ fn judge(bytes: &[u8], drawn: bool) -> Verdict
 
 // Entry: plain judging takes mask and sides as posted.
 pub fn judge_plainly(bytes: &[u8]) -> Verdict
-    ensures { verdict_answer result ≡ judged false (before bytes) }
+    ensures { verdict_answer result ≡ judged false bytes.now }
 {
     judge(bytes, false)
 }
 
 // Entry: drawn judging demands that mask and sides be the drawn ones.
 pub fn judge_as_drawn(bytes: &[u8]) -> Verdict
-    ensures { verdict_answer result ≡ judged true (before bytes) }
+    ensures { verdict_answer result ≡ judged true bytes.now }
 {
     judge(bytes, true)
 }

@@ -2,7 +2,6 @@
 // read by the command reader.
 ghost use Rattle.std.specs.Prelude.{◌≡◌, ◌<◌};
 ghost use Rattle.laws.specs.Faults.{first, ◌then◌};
-ghost use Rattle.laws.specs.Lent.{before};
 ghost use Rattle.protocol.specs.Layout as places;
 ghost use Rattle.protocol.specs.Judging.{found, if_compared, if_opened, list_half_faults, half_faults, vote_faults, full_faults};
 ghost use Rattle.protocol.specs.Judging.{trailing_fault, part_three_faults};
@@ -18,7 +17,7 @@ use protocol::{Due, Parameters};
 // The half of the entry that a compared list links to ballot j.
 fn half_if_compared(bytes: &[u8], p: Parameters, drawn: bool, j: usize, l: usize) -> Found
     requires { HalfPassed drawn p bytes.now j × (l < places.lists p) }
-    ensures { result ≡ if_compared p (before bytes) l (found drawn p (before bytes) (Due.ListHalf l j)) }
+    ensures { result ≡ if_compared p bytes.now l (found drawn p bytes.now (Due.ListHalf l j)) }
 {
     let mask = layout::mask(p, bytes);
     if (mask >> (l as u32)) % 2 == 0 {
@@ -31,7 +30,7 @@ fn half_if_compared(bytes: &[u8], p: Parameters, drawn: bool, j: usize, l: usize
 // The halves of all linked entries of ballot j.
 fn list_half_faults(bytes: &[u8], p: Parameters, drawn: bool, j: usize) -> Found
     requires { HalfPassed drawn p bytes.now j }
-    ensures { result ≡ list_half_faults drawn p (before bytes) j }
+    ensures { result ≡ list_half_faults drawn p bytes.now j }
 {
     let all = layout::lists(p);
     let mut l: usize = 0;
@@ -48,7 +47,7 @@ fn list_half_faults(bytes: &[u8], p: Parameters, drawn: bool, j: usize) -> Found
 // Ballot j's half, and those of its linked entries. `text` is what the sides are drawn from.
 fn half_faults(bytes: &[u8], p: Parameters, drawn: bool, j: usize, text: &[u8]) -> Found
     requires { HalvesBegun drawn p bytes.now text.now × (j < p.ballots) }
-    ensures { result ≡ half_faults drawn p (before bytes) j }
+    ensures { result ≡ half_faults drawn p bytes.now j }
 {
     let at = layout::at_ballot_half(p, j);
     let f = reader::drawn_fault(bytes, at, Due::BallotHalf(j), p, drawn, text);
@@ -61,7 +60,7 @@ fn half_faults(bytes: &[u8], p: Parameters, drawn: bool, j: usize, text: &[u8]) 
 // The halves of all ballots.
 fn all_half_faults(bytes: &[u8], p: Parameters, drawn: bool, text: &[u8]) -> Found
     requires { HalvesBegun drawn p bytes.now text.now }
-    ensures { result ≡ first (half_faults drawn p (before bytes)) p.ballots }
+    ensures { result ≡ first (half_faults drawn p bytes.now) p.ballots }
 {
     let n = p.ballots;
     let mut j: usize = 0;
@@ -80,7 +79,7 @@ fn all_half_faults(bytes: &[u8], p: Parameters, drawn: bool, text: &[u8]) -> Fou
 // The announced votes.
 fn vote_faults(bytes: &[u8], p: Parameters, drawn: bool) -> Found
     requires { Few p }
-    ensures { result ≡ vote_faults drawn p (before bytes) p.ballots }
+    ensures { result ≡ vote_faults drawn p bytes.now p.ballots }
 {
     let n = p.ballots;
     let mut i: usize = 0;
@@ -98,7 +97,7 @@ fn vote_faults(bytes: &[u8], p: Parameters, drawn: bool) -> Found
 // The full openings of one list, by how many opened lists come before.
 fn full_faults(bytes: &[u8], p: Parameters, drawn: bool, l: usize) -> Found
     requires { VotesPassed drawn p bytes.now × (l < places.lists p) }
-    ensures { result ≡ full_faults drawn p (before bytes) l }
+    ensures { result ≡ full_faults drawn p bytes.now l }
 {
     let rank = l - layout::rank(layout::mask(p, bytes), l);
     let n = p.ballots;
@@ -117,7 +116,7 @@ fn full_faults(bytes: &[u8], p: Parameters, drawn: bool, l: usize) -> Found
 // The same, where list l is opened.
 fn full_if_opened(bytes: &[u8], p: Parameters, drawn: bool, l: usize) -> Found
     requires { VotesPassed drawn p bytes.now × (l < places.lists p) }
-    ensures { result ≡ if_opened p (before bytes) l (full_faults drawn p (before bytes) l) }
+    ensures { result ≡ if_opened p bytes.now l (full_faults drawn p bytes.now l) }
 {
     let mask = layout::mask(p, bytes);
     if (mask >> (l as u32)) % 2 == 1 {
@@ -129,7 +128,7 @@ fn full_if_opened(bytes: &[u8], p: Parameters, drawn: bool, l: usize) -> Found
 // The full openings of all opened lists.
 fn opened_faults(bytes: &[u8], p: Parameters, drawn: bool) -> Found
     requires { VotesPassed drawn p bytes.now }
-    ensures { let r₀ = before bytes in
+    ensures { let r₀ = bytes.now in
         result ≡ first (λ l. if_opened p r₀ l (full_faults drawn p r₀ l)) (places.lists p) }
 {
     let all = layout::lists(p);
@@ -147,7 +146,7 @@ fn opened_faults(bytes: &[u8], p: Parameters, drawn: bool) -> Found
 // The end, and nothing behind it.
 fn end_faults(bytes: &[u8], p: Parameters, drawn: bool) -> Found
     requires { Few p }
-    ensures { result ≡ found drawn p (before bytes) Due.End then trailing_fault p (before bytes) }
+    ensures { result ≡ found drawn p bytes.now Due.End then trailing_fault p bytes.now }
 {
     let at = layout::at_end(p);
     let f = reader::command_fault(bytes, at, Due::End, p, drawn);
@@ -163,7 +162,7 @@ fn end_faults(bytes: &[u8], p: Parameters, drawn: bool) -> Found
 // Votes, full openings and the end.
 fn closing_faults(bytes: &[u8], p: Parameters, drawn: bool) -> Found
     requires { FirstDicePassed drawn p bytes.now }
-    ensures { let r₀ = before bytes in
+    ensures { let r₀ = bytes.now in
         let opened = first (λ l. if_opened p r₀ l (full_faults drawn p r₀ l)) (places.lists p) in
         result ≡ vote_faults drawn p r₀ p.ballots then (opened then (found drawn p r₀ Due.End then trailing_fault p r₀)) }
 {
@@ -183,7 +182,7 @@ fn closing_faults(bytes: &[u8], p: Parameters, drawn: bool) -> Found
 // The second dice, the halves, and then votes, full openings and the end. `prefix` has taken in parts one and two.
 pub fn part_three_faults(bytes: &[u8], p: Parameters, drawn: bool, prefix: sha3::Sponge) -> Found
     requires { PartTwoPassed drawn p bytes.now prefix }
-    ensures { result ≡ part_three_faults drawn p (before bytes) }
+    ensures { result ≡ part_three_faults drawn p bytes.now }
 {
     let at = layout::at_second_dice(p);
     let f = reader::command_fault(bytes, at, Due::SecondDice, p, drawn);

@@ -3,7 +3,6 @@
 ghost use Rattle.std.specs.Prelude.{true, ◌≡◌, ◌+◌, ◌≤◌, ◌<◌, length, take};
 ghost use Rattle.laws.specs.Chunks.{piece};
 ghost use Rattle.laws.specs.Faults.{first};
-ghost use Rattle.laws.specs.Lent.{before};
 ghost use Rattle.sha3.specs.Sha3.{absorb_bytes, empty};
 ghost use Rattle.protocol.specs.Layout as places;
 ghost use Rattle.protocol.specs.Drawing.{challenge};
@@ -17,7 +16,7 @@ use protocol::{Due, Parameters};
 // where nothing is drawn or the characters are not all there.
 pub fn dice_text(bytes: &[u8], at: usize, drawn: bool, prefix: sha3::Sponge) -> [u8; 86]
     requires { (prefix.fill < 144) × (at < 1073741824) }
-    ensures { let r₀ = before bytes in
+    ensures { let r₀ = bytes.now in
         let text = challenge (piece r₀ (at + 1) 30) (take at r₀) in
         (drawn ≡ true → at + 31 ≤ length r₀ → prefix ≡ absorb_bytes 144 empty (take at r₀) → result ≡ text) }
 {
@@ -35,7 +34,7 @@ pub fn dice_text(bytes: &[u8], at: usize, drawn: bool, prefix: sha3::Sponge) -> 
 // The first dice.
 fn first_dice_fault(bytes: &[u8], p: Parameters, drawn: bool, prefix: sha3::Sponge) -> Found
     requires { PartOnePassed drawn p bytes.now prefix }
-    ensures { result ≡ found drawn p (before bytes) Due.FirstDice }
+    ensures { result ≡ found drawn p bytes.now Due.FirstDice }
 {
     let at = layout::at_first_dice(p);
     let text = dice_text(bytes, at, drawn, prefix);
@@ -45,7 +44,7 @@ fn first_dice_fault(bytes: &[u8], p: Parameters, drawn: bool, prefix: sha3::Spon
 // The links of one compared list, with its row of marks.
 fn link_faults(bytes: &[u8], p: Parameters, drawn: bool, l: usize) -> Found
     requires { FirstDicePassed drawn p bytes.now × (l < places.lists p) }
-    ensures { result ≡ link_faults drawn p (before bytes) l }
+    ensures { result ≡ link_faults drawn p bytes.now l }
 {
     let rank = layout::rank(layout::mask(p, bytes), l);
     let mut marks = [false; 4096];
@@ -68,7 +67,7 @@ fn link_faults(bytes: &[u8], p: Parameters, drawn: bool, l: usize) -> Found
 // The same, where list l is compared.
 fn links_if_compared(bytes: &[u8], p: Parameters, drawn: bool, l: usize) -> Found
     requires { FirstDicePassed drawn p bytes.now × (l < places.lists p) }
-    ensures { result ≡ if_compared p (before bytes) l (link_faults drawn p (before bytes) l) }
+    ensures { result ≡ if_compared p bytes.now l (link_faults drawn p bytes.now l) }
 {
     let mask = layout::mask(p, bytes);
     if (mask >> (l as u32)) % 2 == 0 {
@@ -80,7 +79,7 @@ fn links_if_compared(bytes: &[u8], p: Parameters, drawn: bool, l: usize) -> Foun
 // The links of all compared lists.
 fn compared_faults(bytes: &[u8], p: Parameters, drawn: bool) -> Found
     requires { FirstDicePassed drawn p bytes.now }
-    ensures { let r₀ = before bytes in
+    ensures { let r₀ = bytes.now in
         result ≡ first (λ l. if_compared p r₀ l (link_faults drawn p r₀ l)) (places.lists p) }
 {
     let all = layout::lists(p);
@@ -98,7 +97,7 @@ fn compared_faults(bytes: &[u8], p: Parameters, drawn: bool) -> Found
 // The first dice, then the links of all compared lists. `prefix` has taken in part one.
 pub fn part_two_faults(bytes: &[u8], p: Parameters, drawn: bool, prefix: sha3::Sponge) -> Found
     requires { PartOnePassed drawn p bytes.now prefix }
-    ensures { result ≡ part_two_faults drawn p (before bytes) }
+    ensures { result ≡ part_two_faults drawn p bytes.now }
 {
     let f = first_dice_fault(bytes, p, drawn, prefix);
     let Found::Nothing = f else {

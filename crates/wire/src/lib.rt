@@ -1,8 +1,9 @@
 // Leaf functions on bytes: numbers read and written with the most significant byte first, slices copied and compared.
 // Each width is made of two of half the width, so that one law serves all of them.
+#![tactic(auto)]
+
 ghost use Rattle.std.specs.Prelude.{◌≡◌, ℕ, ◌+◌, ◌*◌, ◌≤◌, ◌<◌, length};
 ghost use Rattle.laws.specs.Bytes.{number, bytes};
-ghost use Rattle.laws.specs.Lent.{before, after};
 ghost use Rattle.laws.specs.Tables.{tabulate};
 ghost use Rattle.laws.specs.Tests.{same};
 ghost use Rattle.laws.specs.Writing.{Went};
@@ -11,7 +12,7 @@ ghost use Rattle.wire.specs.Comparing.{order_of};
 // The byte at a place.
 pub fn read1(s: &[u8], at: usize) -> u32
     requires { at + 1 ≤ length s.now }
-    ensures { (result ≡ number (before s) at 1) × (result < 256) }
+    ensures { (result ≡ number s.now at 1) × (result < 256) }
 {
     s[at] as u32
 }
@@ -19,7 +20,7 @@ pub fn read1(s: &[u8], at: usize) -> u32
 // The number of two bytes from a place on.
 pub fn read2(s: &[u8], at: usize) -> u32
     requires { at + 2 ≤ length s.now }
-    ensures { (result ≡ number (before s) at 2) × (result < 65536) }
+    ensures { (result ≡ number s.now at 2) × (result < 65536) }
 {
     read1(s, at) * 256 + read1(s, at + 1)
 }
@@ -27,7 +28,7 @@ pub fn read2(s: &[u8], at: usize) -> u32
 // The number of four bytes from a place on.
 pub fn read4(s: &[u8], at: usize) -> u32
     requires { at + 4 ≤ length s.now }
-    ensures { (result ≡ number (before s) at 4) × (result < 4294967296) }
+    ensures { (result ≡ number s.now at 4) × (result < 4294967296) }
 {
     read2(s, at) * 65536 + read2(s, at + 2)
 }
@@ -42,7 +43,7 @@ fn wide(x: u8) -> u64
 // The number of four bytes from a place on, for one of eight.
 fn half(s: &[u8], at: usize) -> u64
     requires { at + 4 ≤ length s.now }
-    ensures { (result ≡ number (before s) at 4) × (result < 4294967296) }
+    ensures { (result ≡ number s.now at 4) × (result < 4294967296) }
 {
     wide(s[at]) * 16777216 + wide(s[at + 1]) * 65536 + wide(s[at + 2]) * 256 + wide(s[at + 3])
 }
@@ -51,13 +52,13 @@ fn half(s: &[u8], at: usize) -> u64
 // makes one load of it.
 pub fn read8(s: &[u8], at: usize) -> u64
     requires { at + 8 ≤ length s.now }
-    ensures { (result ≡ number (before s) at 8) × (result < 18446744073709551616) }
+    ensures { (result ≡ number s.now at 8) × (result < 18446744073709551616) }
 {
     half(s, at) * 4294967296 + half(s, at + 4)
 }
 
 // Which of two numbers is the lesser one.
-#[derive(Drop)]
+#[derive(Clone, Copy)]
 pub enum Order {
     Less,
     Equal,
@@ -68,7 +69,7 @@ pub enum Order {
 // up to the first that differ.
 pub fn compare32(a: &[u8], i: usize, b: &[u8], j: usize) -> Order
     requires { (i + 32 ≤ length a.now) × (j + 32 ≤ length b.now) }
-    ensures { result ≡ order_of (number (before a) i 32) (number (before b) j 32) }
+    ensures { result ≡ order_of (number a.now i 32) (number b.now j 32) }
 {
     let mut k: usize = 0;
     while k < 32 {
@@ -88,7 +89,7 @@ pub fn compare32(a: &[u8], i: usize, b: &[u8], j: usize) -> Order
 // Fills out with numbers of four bytes that stand `step` bytes apart from a place on.
 pub fn fill_numbers(s: &[u8], at: usize, step: usize, out: &mut [u32])
     requires { (i : ℕ) → i < length out.old → at + step * i + 4 ≤ length s.now }
-    ensures { after out ≡ tabulate (λ i. number (before s) (at + step * i) 4) (length (before out)) }
+    ensures { out.new ≡ tabulate (λ i. number s.now (at + step * i) 4) (length out.old) }
 {
     let n = out.len();
     let mut i: usize = 0;
@@ -101,7 +102,7 @@ pub fn fill_numbers(s: &[u8], at: usize, step: usize, out: &mut [u32])
 // Writes the lowest byte of x at a place, and answers the next place.
 pub fn put1(out: &mut [u8], at: usize, x: u32) -> usize
     requires { at + 1 ≤ length out.old }
-    ensures { Went (before out) at (bytes 1 x) (after out) result }
+    ensures { Went out.old at (bytes 1 x) out.new result }
 {
     out[at] = (x % 256) as u8;
     at + 1
@@ -110,7 +111,7 @@ pub fn put1(out: &mut [u8], at: usize, x: u32) -> usize
 // Writes the lowest two bytes of x from a place on, and answers the next place.
 pub fn put2(out: &mut [u8], at: usize, x: u32) -> usize
     requires { at + 2 ≤ length out.old }
-    ensures { Went (before out) at (bytes 2 x) (after out) result }
+    ensures { Went out.old at (bytes 2 x) out.new result }
 {
     let next = put1(out, at, x / 256);
     put1(out, next, x)
@@ -119,7 +120,7 @@ pub fn put2(out: &mut [u8], at: usize, x: u32) -> usize
 // Writes the four bytes of x from a place on, and answers the next place.
 pub fn put4(out: &mut [u8], at: usize, x: u32) -> usize
     requires { at + 4 ≤ length out.old }
-    ensures { Went (before out) at (bytes 4 x) (after out) result }
+    ensures { Went out.old at (bytes 4 x) out.new result }
 {
     let next = put2(out, at, x / 65536);
     put2(out, next, x)
@@ -128,7 +129,7 @@ pub fn put4(out: &mut [u8], at: usize, x: u32) -> usize
 // Copies src into out from a place on, and answers the next place.
 pub fn copy(out: &mut [u8], at: usize, src: &[u8]) -> usize
     requires { at + length src.now ≤ length out.old }
-    ensures { Went (before out) at (before src) (after out) result }
+    ensures { Went out.old at src.now out.new result }
 {
     let mut i: usize = 0;
     while i < src.len() {
@@ -141,7 +142,7 @@ pub fn copy(out: &mut [u8], at: usize, src: &[u8]) -> usize
 // Whether a and b are the same bytes. It does not stop at the first difference: a loop that goes through to the end
 // lets the compiler compare many bytes at once.
 pub fn same_bytes(a: &[u8], b: &[u8]) -> bool
-    ensures { result ≡ same (before a) (before b) }
+    ensures { result ≡ same a.now b.now }
 {
     if a.len() != b.len() {
         return false;
