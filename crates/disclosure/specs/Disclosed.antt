@@ -28,17 +28,17 @@ pub record Sided (s : Slices) (sides : List ℕ) : Type 0 where
   pub binary : (j : ℕ) → j < s.parameters.ballots → item sides j ≤ 1
 
 -- slices that pass every test, with dice, a mask of the right shape, and a buffer of the due length: sides are drawn
-pub record Drawable (s : Slices) (dice : List ℕ) (mask out_long : ℕ) : Type 0 where
+pub record Drawable (s : Slices) (dice : List ℕ) (mask out_length : ℕ) : Type 0 where
   pub passed : Passed s
   pub dice_long : length dice ≡ 30
   pub shape : right_shape s.parameters.compared mask ≡ true
-  pub out_long : out_long ≡ part_three_length s.parameters
+  pub out_long : out_length ≡ part_three_length s.parameters
 
 -- .. and sides given
-pub record Writable (s : Slices) (dice : List ℕ) (mask : ℕ) (sides : List ℕ) (out_long : ℕ) : Type 0 where
+pub record Writable (s : Slices) (dice : List ℕ) (mask : ℕ) (sides : List ℕ) (out_length : ℕ) : Type 0 where
   pub passed : Passed s
   pub dice_long : length dice ≡ 30
   pub shape : right_shape s.parameters.compared mask ≡ true
   pub sides_long : length sides ≡ s.parameters.ballots
   pub binary : binary_sides s sides ≡ true
-  pub out_long : out_long ≡ part_three_length s.parameters
+  pub out_long : out_length ≡ part_three_length s.parameters

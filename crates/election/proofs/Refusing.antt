@@ -13,15 +13,15 @@ use Rattle.protocol.proofs.Whole.{mask_shape, election_iff}
 use Rattle.mixing.specs.Passed.{Passed}
 use Rattle.election.specs.Ready.{SecondReady, ThirdReady}
 
-module _ (s : Slices) (by_mask : Choice ℕ) (dice₁ : List ℕ) (by_sides : Choice (List ℕ)) (dice₂ : List ℕ) (one_long two_long three_long joined_long : ℕ) where
+module _ (s : Slices) (by_mask : Choice ℕ) (dice₁ : List ℕ) (by_sides : Choice (List ℕ)) (dice₂ : List ℕ) (one_length two_length three_length joined_length : ℕ) where
   pub record Ready : Type 0 where
     pub passed : Passed s
-    pub one_long : one_long ≡ part_one_length s.parameters
-    pub second : SecondReady s by_mask dice₁ two_long
-    pub third : ThirdReady s (election_mask s by_mask dice₁) by_sides dice₂ three_long
-    pub joined_long : joined_long ≡ one_long + two_long + three_long
+    pub one_long : one_length ≡ part_one_length s.parameters
+    pub second : SecondReady s by_mask dice₁ two_length
+    pub third : ThirdReady s (election_mask s by_mask dice₁) by_sides dice₂ three_length
+    pub joined_long : joined_length ≡ one_length + two_length + three_length
 
-  pub ready : election_refusal s by_mask dice₁ by_sides dice₂ one_long two_long three_long joined_long ≡ 0 → Ready
+  pub ready : election_refusal s by_mask dice₁ by_sides dice₂ one_length two_length three_length joined_length ≡ 0 → Ready
   unfolding election_refusal
   ready e =
       let u = unrefused s _ _ _ _ e in
@@ -32,7 +32,7 @@ module _ (s : Slices) (by_mask : Choice ℕ) (dice₁ : List ℕ) (by_sides : Ch
         one_long = l₁;
         second = record { passed = p; dice_long = d₁; shape = u.right_shape; out_long = l₂ };
         third = record { passed = p; dice_long = d₂; shape = mask_shape s by_mask dice₁ u.right_shape; sides_long = each; binary = u.binary_sides; out_long = l₃ };
-        joined_long = ((election_iff s by_mask dice₁ by_sides dice₂ one_long two_long three_long joined_long).0 e).joined;
+        joined_long = ((election_iff s by_mask dice₁ by_sides dice₂ one_length two_length three_length joined_length).0 e).joined;
       }
 
 -- the same of the mask that was written

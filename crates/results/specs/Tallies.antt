@@ -2,7 +2,7 @@
 use Rattle.std.specs.Prelude.{◌≡◌, List, ℕ, suc, ◌≤◌, ◌<◌, length}
 use Rattle.protocol.specs.Terms.{item}
 
-pub record TallyReady (votes : List ℕ) (values_long counts_long : ℕ) : Type 0 where
-  pub values_long : values_long ≡ length votes
-  pub counts_long : counts_long ≡ length votes
+pub record TallyReady (votes : List ℕ) (values_length counts_length : ℕ) : Type 0 where
+  pub values_long : values_length ≡ length votes
+  pub counts_long : counts_length ≡ length votes
   pub rises : (i : ℕ) → suc i < length votes → item votes i ≤ item votes (suc i)
