@@ -277,6 +277,13 @@ held {r} e h = sym e ∙ not-false r h
 pub failed : {r t : Bool} → r ≡ t → not r ≡ true → t ≡ false
 failed {r} e h = sym e ∙ not-true r h
 
+-- .. where the code's own test is of the answer or of its negation, and the language says which value the answer has
+pub told_true : {r t : Bool} → r ≡ t → r ≡ true → t ≡ true
+told_true e h = sym e ∙ h
+
+pub told_false : {r t : Bool} → r ≡ t → r ≡ false → t ≡ false
+told_false e h = sym e ∙ h
+
 -- the second test holds: the first decides
 pub and_last : (a b : Bool) → b ≡ true → a ≡ (a and b)
 unfolding ◌and◌
