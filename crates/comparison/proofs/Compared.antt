@@ -9,7 +9,7 @@ use lib.ListN.{length, length-append}
 use Rattle.laws.specs.Tests.{choose}
 use Rattle.laws.specs.Masks.{bit, set_before, set_ones}
 use Rattle.laws.specs.Modular.{minus}
-use Rattle.laws.specs.Permutations.{whence_of}
+use Rattle.laws.proofs.Permutations.{whence_of}
 use Rattle.laws.specs.Chunks.{chunks, start, chunks_length, chunks_even, start_set}
 use Rattle.laws.specs.Writing.{Went, go_on, whole, room}
 use Rattle.protocol.specs.Terms.{item}

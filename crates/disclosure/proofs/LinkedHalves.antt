@@ -10,7 +10,7 @@ use lib.ListN.{length, take, drop, length-append, get_or-append}
 use lib.Seq.{length-take-le, get_or-take, get_or-append-add}
 use Rattle.laws.specs.Chunks.{chunks, chunks_length, start_set}
 use Rattle.laws.specs.Masks.{bit, set_before, set_ones, set_lt, set_rank, bit_small}
-use Rattle.laws.specs.Permutations.{perm_then, whence_of}
+use Rattle.laws.proofs.Permutations.{perm_then, whence_of}
 use Rattle.laws.specs.Tests.{choose}
 use Rattle.laws.specs.Writing.{Went, lent, row_within, room}
 use Rattle.protocol.specs.declared.Parameters.{Parameters}

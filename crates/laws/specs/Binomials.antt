@@ -1,12 +1,12 @@
 -- Choices of k out of n, and numbers below 2 ^ n some of whose bits are fixed.
-use Rattle.std.specs.Prelude.{◌≡◌, ◌≢◌, Bool, ℕ, zero, suc, ◌+◌, ◌-◌, ◌*◌, ◌^◌, ◌≤◌, ◌<◌}
+use Rattle.std.specs.Prelude.{◌≡◌, ◌≢◌, Bool, ℕ, zero, suc, ◌+◌, ◌*◌, ◌^◌, ◌≤◌, ◌<◌}
 use Rattle.std.proofs.Math.Path.{refl}
-use Rattle.std.proofs.Common.{sym, ap, ◌∙◌, le_refl, le_trans, le_of_eq, mul-le-mul_left, le_of_mul-le-mul_right, zero-add, add-zero, add-mul, mul_assoc, arith, pow-add, pow_mono, pow_pos}
+use Rattle.std.proofs.Common.{sym, ap, ◌∙◌, le_refl, zero-add, add-zero, add-mul, mul_assoc, arith, pow-add}
 use Rattle.std.proofs.Math.Bool.{true, false}
-use Rattle.std.proofs.Math.Decide.{ℕ_discrete, dec_lt}
+use Rattle.std.proofs.Math.Decide.{ℕ_discrete}
 use Rattle.std.specs.Int.Count.{ones}
 use Rattle.std.proofs.lemmas.Nat.{ones_cat}
-use Rattle.laws.specs.Tests.{equal, ◌or◌, ◌implies◌, every, pick, is_equal, not_equal, by_iff, equal_iff, unequal_iff, or_iff, or_fails, implies_iff, implies_fails, every_iff, every_fails, refuted}
+use Rattle.laws.specs.Tests.{equal, ◌or◌, ◌implies◌, every, is_equal, not_equal, by_iff, equal_iff, unequal_iff, or_fails, implies_iff, implies_fails, every_iff, every_fails, refuted}
 use Rattle.laws.specs.Sums.{one_if, sum_same}
 use Rattle.laws.specs.Masks.{bit, bit_set, bits_below, bit_under, bit_top}
 use Rattle.laws.specs.Subsets.{many_below, below_none, below_most, below_double}
@@ -102,10 +102,10 @@ fixed_bits (suc n) t fixed v h =
 
 -- ---- a set of numbers below 2 ^ n all of which have the same bit j
 
-all_have : (ℕ → Bool) → ℕ → ℕ → ℕ → Bool
+unfoldable pub all_have : (ℕ → Bool) → ℕ → ℕ → ℕ → Bool
 all_have t n j v = every (λ x. t x implies equal (bit x j) v) (2 ^ n)
 
-pub constant : (ℕ → Bool) → ℕ → ℕ → Bool
+unfoldable pub constant : (ℕ → Bool) → ℕ → ℕ → Bool
 constant t n j = all_have t n j 0 or all_have t n j 1
 
 -- two numbers of the set that differ in bit j
@@ -117,7 +117,7 @@ pub record Varied (t : ℕ → Bool) (n j : ℕ) : Type 0 where
   pub differ : bit one j ≢ bit other j
 
 module _ (t : ℕ → Bool) (n : ℕ) where
-  have : (j v x : ℕ) → all_have t n j v ≡ true → x < 2 ^ n → t x ≡ true → bit x j ≡ v
+  pub have : (j v x : ℕ) → all_have t n j v ≡ true → x < 2 ^ n → t x ≡ true → bit x j ≡ v
   unfolding all_have
   have j v x a l e = (equal_iff (bit x j) v).0 ((implies_iff (t x) (equal (bit x j) v)).0 ((every_iff (λ y. t y implies equal (bit y j) v) (2 ^ n)).0 a x l) e)
 
@@ -135,24 +135,3 @@ module _ (t : ℕ → Bool) (n : ℕ) where
       let (x, (i, e)) = lacks j 0 a in
       let (y, (k, f)) = lacks j 1 b in
       record { one = x; other = y; one_in = i; other_in = k; differ = λ q. f (omega (arith, bit_set x j e)) }
-
-  -- it has at most 2 ^ n / 2 ^ K numbers, K being the number of such bits
-  pub constant_few : many_below t (2 ^ n) * 2 ^ many_below (constant t n) n ≤ 2 ^ n
-  unfolding constant
-  constant_few = fixed_bits n t (constant t n) (λ j. pick (all_have t n j 0) 0 1) (λ x j l e k f. go x j l e (all_have t n j 0) refl f)
-    where
-      go : (x j : ℕ) → x < 2 ^ n → t x ≡ true → (b : Bool) → all_have t n j 0 ≡ b → (b or all_have t n j 1) ≡ true → bit x j ≡ pick b 0 1
-      go x j l e true a f = have j 0 x a l e
-      go x j l e false a f = have j 1 x ((or_iff false (all_have t n j 1)).0 f refl) l e
-
-  -- so where there are more than 2 ^ n / 2 ^ k, fewer than k bits are the same in all
-  pub constant_less : (k : ℕ) → k ≤ n → 2 ^ (n - k) < many_below t (2 ^ n) → many_below (constant t n) n < k
-  constant_less k l h = go (dec_lt (many_below (constant t n) n) k)
-    where
-      go : Dec (many_below (constant t n) n < k) → many_below (constant t n) n < k
-      go (yes q) = q
-      go (no q) =
-          let most : many_below t (2 ^ n) * 2 ^ k ≤ 2 ^ n = le_trans (mul-le-mul_left (many_below t (2 ^ n)) (pow_mono {i = k} {j = many_below (constant t n) n} (omega arith))) constant_few in
-          let e : n ≡ n - k + k = omega arith in
-          let whole : 2 ^ n ≡ 2 ^ (n - k) * 2 ^ k = ap (λ (x : ℕ). 2 ^ x) e ∙ pow-add 2 (n - k) k in
-          absurd (omega (arith, le_of_mul-le-mul_right {m = many_below t (2 ^ n)} {n = 2 ^ (n - k)} {k = 2 ^ k} (le_trans most (le_of_eq whole)) (pow_pos k)))

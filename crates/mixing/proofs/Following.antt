@@ -12,7 +12,8 @@ use Rattle.laws.specs.Tests.{choose}
 use Rattle.laws.specs.Bytes.{Below}
 use Rattle.laws.specs.Chunks.{get_piece}
 use Rattle.laws.specs.Modular.{plus, minus, plus_below, third_of}
-use Rattle.laws.specs.Permutations.{Perm, perm_then, whence, whence_of}
+use Rattle.laws.specs.Permutations.{Perm, whence}
+use Rattle.laws.proofs.Permutations.{perm_then, whence_of}
 use Rattle.laws.specs.Writing.{row_within}
 use Rattle.protocol.specs.declared.Parameters.{Parameters}
 use Rattle.protocol.specs.Terms.{item, most_ballots}

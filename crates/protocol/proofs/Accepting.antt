@@ -8,7 +8,8 @@ use native.Mathlib.Nat.{le_of_eq}
 use native.Mathlib.Omega.{arith}
 use lib.ListN.{length}
 use Rattle.laws.specs.Masks.{bit, bit_small, bits_iff}
-use Rattle.laws.specs.Permutations.{Perm, perm_of}
+use Rattle.laws.specs.Permutations.{Perm}
+use Rattle.laws.proofs.Permutations.{perm_of}
 use Rattle.laws.specs.Tests.{never}
 use Rattle.protocol.specs.declared.Due.{Due}
 use Rattle.protocol.specs.declared.Due.TheVariants.{First, Ballot, Entry, FirstDice, Link, SecondDice, BallotHalf, ListHalf, Vote, FullOpening, End}

@@ -8,7 +8,7 @@ use native.Mathlib.Nat.{le_of_eq}
 use native.Mathlib.Decide.{ℕ_discrete}
 use native.Mathlib.Omega.{arith}
 use Rattle.laws.specs.Masks.{bit, Only, only, below_bits, set_before, set_ones, set_lt}
-use Rattle.laws.specs.Permutations.{times_perm}
+use Rattle.laws.proofs.Permutations.{times_perm}
 use Rattle.laws.specs.Search.{all_or, ◌>>=◌}
 use Rattle.laws.specs.Sums.{times, times_same}
 use Rattle.protocol.specs.Terms.{Scheme}

@@ -9,11 +9,12 @@ use native.Mathlib.Nat.{le_trans, mod-lt}
 use native.Mathlib.Omega.{arith}
 use Rattle.laws.specs.Tests.{differ, differ_iff}
 use Rattle.laws.specs.Masks.{bit}
-use Rattle.laws.specs.Permutations.{times_perm}
+use Rattle.laws.proofs.Permutations.{times_perm}
 use Rattle.laws.specs.Sums.{times}
 use Rattle.laws.specs.Subsets.{many_below, below_within}
 use Rattle.laws.specs.Binomials.{constant, Varied, varied}
-use Rattle.laws.specs.Distances.{distance, distance_same, distance_most}
+use Rattle.laws.specs.Distances.{distance}
+use Rattle.laws.proofs.Distances.{distance_same, distance_most}
 use Rattle.protocol.specs.Terms.{Scheme}
 use Rattle.protocol.specs.Layout.{lists}
 use Rattle.protocol.specs.Record.{Board, Comparison, Disclosure}

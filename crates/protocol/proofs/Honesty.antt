@@ -10,7 +10,7 @@ use Rattle.laws.specs.Bytes.{Below, bytes, length_bytes, number_bytes}
 use Rattle.laws.specs.Masks.{bits_below}
 use Rattle.laws.specs.At.{at_self, at_move, at_right, at_number}
 use Rattle.laws.specs.Sums.{times, times_same}
-use Rattle.laws.specs.Permutations.{times_perm}
+use Rattle.laws.proofs.Permutations.{times_perm}
 use Rattle.laws.specs.Tables.{tabulate, length_tabulate, get_tabulate}
 use Rattle.laws.specs.Sorting.{count_sort, count_tabulate, times_list, length_sort, sort_sorted, sorted_rises, sort_below}
 use Rattle.sha3.proofs.Digest.{sha3_256_length}

@@ -6,7 +6,8 @@ use native.Mathlib.Nat.{le_of_lt, mod-lt, mod-eq_of_lt, div-add-mod'}
 use native.Mathlib.Omega.{arith}
 use Rattle.laws.specs.Tests.{choose}
 use Rattle.laws.specs.Modular.{plus, minus, cong, out, plus_plus, minus_below}
-use Rattle.laws.specs.Permutations.{Perm, perm_then, whence_of, whence_perm}
+use Rattle.laws.specs.Permutations.{Perm}
+use Rattle.laws.proofs.Permutations.{perm_then, whence_of, whence_perm}
 use Rattle.protocol.specs.Tablet.{share, slot}
 use Rattle.protocol.specs.Columns.{row, third_offset, source}
 use Rattle.protocol.specs.Layout.{lists}

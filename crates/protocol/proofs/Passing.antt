@@ -19,7 +19,8 @@ use Rattle.laws.specs.Faults.{number_of, rules}
 use Rattle.laws.specs.Search.{find, all_or, ◌>>=◌}
 use Rattle.laws.specs.Sums.{sum, one_if, sum_most, sum_only, sum_times}
 use Rattle.laws.specs.Subsets.{many_below, below_within, below_none, below_most, below_some}
-use Rattle.laws.specs.Binomials.{with_ones, constant_less}
+use Rattle.laws.specs.Binomials.{with_ones}
+use Rattle.laws.proofs.Binomials.{constant_less}
 use Rattle.laws.specs.Distances.{distance}
 use Rattle.protocol.specs.declared.Parameters.{Parameters}
 use Rattle.protocol.specs.Answers.{answer_of, accepted}

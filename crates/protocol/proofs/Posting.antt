@@ -9,7 +9,8 @@ use lib.Pow.{pow_pos}
 use Rattle.laws.specs.Tests.{pick, at_most, ◌and◌, and_stop}
 use Rattle.laws.specs.Masks.{bit}
 use Rattle.laws.specs.Sums.{times_same}
-use Rattle.laws.specs.Distances.{distance, distance_same}
+use Rattle.laws.specs.Distances.{distance}
+use Rattle.laws.proofs.Distances.{distance_same}
 use Rattle.protocol.specs.declared.Parameters.{Parameters}
 use Rattle.protocol.specs.declared.Place.TheVariants.{InBallot}
 use Rattle.protocol.specs.Terms.{opened, commitment}

@@ -13,7 +13,8 @@ use borrow.Author.Tests.{eq-eqb, ne_eqb}
 use Rattle.laws.specs.Tests.{pick, below, is_below, not_below}
 use Rattle.laws.specs.Sums.{one_if, times, sum_same, sum_one}
 use Rattle.laws.specs.Subsets.{below_first}
-use Rattle.laws.specs.Distances.{distance, distance_surplus}
+use Rattle.laws.specs.Distances.{distance}
+use Rattle.laws.proofs.Distances.{distance_surplus}
 use Rattle.protocol.specs.declared.Parameters.{Parameters}
 use Rattle.protocol.specs.Terms.{item, election_number, in_limits}
 use Rattle.protocol.specs.Layout.{part_one_length}

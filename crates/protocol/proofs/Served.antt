@@ -8,7 +8,8 @@ use lib.ListN.{length}
 use Rattle.laws.specs.Tests.{at_most, ◌and◌, and_last_stop, not_at_most}
 use Rattle.laws.specs.Masks.{bit, bit_small}
 use Rattle.laws.specs.Binomials.{binomial}
-use Rattle.laws.specs.Distances.{distance, distance_same, distance_zero}
+use Rattle.laws.specs.Distances.{distance}
+use Rattle.laws.proofs.Distances.{distance_same, distance_zero}
 use Rattle.laws.specs.Tables.{tabulate, get_tabulate}
 use Rattle.protocol.specs.Terms.{item}
 use Rattle.protocol.specs.Record.{Comparison, Disclosure, encoding}

@@ -14,7 +14,8 @@ use Rattle.laws.specs.Faults.{rule, located, ◌then◌, number_of}
 use Rattle.laws.specs.Search.{◌>>=◌}
 use Rattle.laws.specs.Sums.{times}
 use Rattle.laws.specs.Binomials.{binomial, two_choices}
-use Rattle.laws.specs.Distances.{distance, distance_zero}
+use Rattle.laws.specs.Distances.{distance}
+use Rattle.laws.proofs.Distances.{distance_zero}
 use Rattle.protocol.specs.Record.{parameters_of, vote_of}
 use Rattle.protocol.specs.Answers.{answer_of}
 use Rattle.protocol.specs.Rules.{fault_with}

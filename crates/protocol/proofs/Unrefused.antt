@@ -13,7 +13,8 @@ use Rattle.laws.specs.Tests.{not_equal}
 use Rattle.laws.specs.Faults.{rules}
 use Rattle.laws.specs.Bytes.{Below}
 use Rattle.laws.specs.Chunks.{piece, length_piece, get_piece}
-use Rattle.laws.specs.Permutations.{Perm, perm_of}
+use Rattle.laws.specs.Permutations.{Perm}
+use Rattle.laws.proofs.Permutations.{perm_of}
 use Rattle.protocol.specs.Terms.{item, most_ballots, all_below, modulus_in_limits, ballots_in_limits, lists_in_limits, in_limits}
 use Rattle.protocol.specs.Columns.{is_permutation}
 use Rattle.protocol.specs.Rules.{fair_die, fair_dice, right_shape, apart, original}

@@ -1,5 +1,5 @@
 -- What the entries answer, from the days that are planned.
-use mathlib.Core.Path.{◌≡◌, refl, sym, ap, ◌∙◌}
+use mathlib.Core.Path.{◌≡◌, refl, ap, ◌∙◌}
 use mathlib.Core.Bool.{Bool, true, false}
 use mathlib.Core.List.{List, [], ◌∷◌}
 use Prim.Native.Nat.{ℕ, zero, suc}
@@ -7,16 +7,14 @@ use native.Mathlib.Omega.{arith}
 use lib.ListN.{length}
 use Rattle.laws.specs.Tests.{◌and◌, every, pick}
 use Rattle.laws.specs.Faults.{rule}
-use Rattle.protocol.specs.Answers.{Answer, done, refused, answer_of}
+use Rattle.protocol.specs.Answers.{done, refused, answer_of}
 use Rattle.schedule.specs.Dates.{exists, day_number}
 use Rattle.schedule.specs.Working.{working}
-use Rattle.schedule.specs.Windows.{in_turn, days_after, windows_on, windows, window_of, numbers, schedule_refusal, scheduled, window_at, schedule_answer}
+use Rattle.schedule.specs.Windows.{in_turn, days_after, windows_on, windows, window_of, numbers, schedule_refusal, scheduled, window_at}
 use Rattle.schedule.specs.Told.{planned_on, plan}
 use Rattle.schedule.specs.declared.Date.{Date}
 use Rattle.schedule.specs.declared.Days.{Days}
 use Rattle.schedule.specs.declared.Windows.{Windows}
-use Rattle.schedule.specs.declared.Schedule.{Schedule}
-use Rattle.schedule.specs.declared.Planned.{Planned}
 use Rattle.schedule.specs.declared.Planned.TheVariants as planned
 
 -- what a plan says of the refusal

@@ -8,7 +8,7 @@ use Rattle.laws.specs.Tests.{equal, is_equal, not_equal}
 use Rattle.laws.specs.Sums.{one_if}
 use Rattle.schedule.specs.Dates.{days_of_years}
 use Rattle.schedule.specs.Working.{weekday, working_after, kth_after}
-use Rattle.schedule.proofs.Least.{least_is, First, first_of}
+use Rattle.schedule.proofs.Least.{least_is, first_of}
 use Rattle.schedule.proofs.Dating.{all_days}
 
 -- behind 2199 there are weekends and no holidays

@@ -1,13 +1,12 @@
 -- Document 02, item 7: a list of holidays that rises has at most 73,049, so that a longer one is refused whatever is in it.
-use mathlib.Core.Path.{◌≡◌, refl, sym, ap, ◌∙◌}
+use mathlib.Core.Path.{◌≡◌, sym, ap}
 use mathlib.Core.Bool.{true}
 use mathlib.Core.List.{List}
 use Prim.Native.Nat.{ℕ, zero, suc, ◌-◌, ◌≤◌, ◌<◌}
 use native.Mathlib.Omega.{arith}
 use lib.ListN.{length}
-use Rattle.laws.specs.Tests.{equal, below, ◌and◌, ◌or◌, every, refuted, not_equal, and_iff, or_iff, below_iff, every_iff, and_last_stop}
+use Rattle.laws.specs.Tests.{every, refuted, not_equal, and_iff, or_iff, below_iff, every_iff, and_last_stop}
 use Rattle.laws.specs.Faults.{rule_stop}
-use Rattle.schedule.specs.Dates.{exists}
 use Rattle.schedule.specs.Working.{holiday}
 use Rattle.schedule.specs.Windows.{in_turn, schedule_refusal}
 use Rattle.schedule.specs.declared.Date.{Date}

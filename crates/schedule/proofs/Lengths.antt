@@ -1,10 +1,10 @@
 -- The lengths of months and years, as code works them out. What holds of each month, and of each year, is tried on all of them.
-use mathlib.Core.Path.{◌≡◌, refl, sym, ap, ◌∙◌}
+use mathlib.Core.Path.{◌≡◌, refl, ap, ◌∙◌}
 use mathlib.Core.Logic.{◌≢◌}
 use mathlib.Core.Bool.{Bool, true, false}
 use Prim.Native.Nat.{ℕ, zero, suc, ◌+◌, ◌-◌, ◌*◌, ◌/◌, ◌%◌, ◌≤◌, ◌<◌}
 use native.Mathlib.Omega.{arith}
-use Rattle.laws.specs.Tests.{equal, differ, at_most, ◌and◌, ◌or◌, every, equal_iff, at_most_iff, or_iff, every_iff, not_equal}
+use Rattle.laws.specs.Tests.{equal, differ, ◌and◌, ◌or◌, every, equal_iff, or_iff, every_iff, not_equal}
 use Rattle.laws.specs.Sums.{sum, one_if}
 use Rattle.protocol.specs.Terms.{item}
 use Rattle.schedule.specs.Dates.{leap, months, days_of_month, days_of_months, days_of_year, days_of_years}

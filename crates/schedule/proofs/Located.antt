@@ -1,10 +1,10 @@
 -- The year and the month that a day lies in, found one after the other.
 use mathlib.Core.Path.{◌≡◌, refl, sym, ap, ◌∙◌}
-use Prim.Native.Nat.{ℕ, zero, suc, ◌+◌, ◌-◌, ◌≤◌, ◌<◌}
+use Prim.Native.Nat.{ℕ, suc, ◌+◌, ◌-◌, ◌≤◌, ◌<◌}
 use native.Mathlib.Decide.{dec_lt}
 use native.Mathlib.Omega.{arith}
 use Rattle.laws.specs.Tests.{below, is_below, not_below}
-use Rattle.schedule.specs.Dates.{days_of_month, days_of_months, days_of_year, days_of_years, least, year_of, month_of, date_of}
+use Rattle.schedule.specs.Dates.{days_of_month, days_of_months, days_of_year, days_of_years, year_of, month_of, date_of}
 use Rattle.schedule.specs.declared.Date.{Date}
 use Rattle.schedule.proofs.Prefixes.{Part, locate}
 use Rattle.schedule.proofs.Least.{least_is}

@@ -1,17 +1,17 @@
 -- Document 02, item 7: the windows come in order, on the days and hours that are named, and no minute is in two of them.
-use mathlib.Core.Path.{◌≡◌, refl, sym, ap, ◌∙◌}
-use mathlib.Core.Logic.{◌↔◌, ◌≢◌}
+use mathlib.Core.Path.{◌≡◌, refl, sym, ◌∙◌}
+use mathlib.Core.Logic.{◌↔◌}
 use mathlib.Core.Bool.{Bool, true, false}
 use mathlib.Core.List.{List}
 use Prim.Native.Nat.{ℕ, zero, suc, ◌+◌, ◌-◌, ◌*◌, ◌/◌, ◌%◌, ◌≤◌, ◌<◌}
 use native.Mathlib.Decide.{ℕ_discrete}
 use native.Mathlib.Omega.{arith}
 use lib.ListN.{length}
-use Rattle.laws.specs.Tests.{below, at_most, ◌and◌, differ, every, pick, never, refuted, is_below, is_differ, and_iff, at_most_iff, below_iff, every_iff}
+use Rattle.laws.specs.Tests.{pick, refuted, is_below, is_differ, and_iff, at_most_iff, below_iff, every_iff}
 use Rattle.laws.specs.Faults.{rule_kept}
 use Rattle.protocol.specs.Terms.{item}
 use Rattle.schedule.specs.Dates.{exists, date_in, day_number}
-use Rattle.schedule.specs.Working.{weekday, holiday, working, working_but, working_after, kth_after}
+use Rattle.schedule.specs.Working.{holiday, working, working_but}
 use Rattle.schedule.specs.Windows.{in_turn, days_after, minute_of, window, windows_on, windows, inside, window_of, schedule_refusal}
 use Rattle.schedule.specs.declared.Date.{Date}
 use Rattle.schedule.specs.declared.Days.{Days}

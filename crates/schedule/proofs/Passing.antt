@@ -7,18 +7,17 @@ use Prim.Native.Nat.{ℕ, zero, suc, ◌+◌, ◌-◌, ◌≤◌, ◌<◌}
 use native.Mathlib.Numerals.{add-one}
 use native.Mathlib.Omega.{arith}
 use lib.ListN.{length}
-use Rattle.laws.specs.Tests.{equal, differ, below, ◌and◌, ◌or◌, every, pick, never, refuted, is_equal, not_equal, is_below, not_below, is_differ, not_differ}
-use Rattle.laws.specs.Tests.{and_iff, and_go, and_stop, and_last, and_last_stop, or_iff, or_go, or_stop, below_iff, every_iff, every_more, every_stop}
+use Rattle.laws.specs.Tests.{below, ◌and◌, every, is_equal, not_equal, is_below, not_below, is_differ, not_differ}
+use Rattle.laws.specs.Tests.{and_iff, and_go, and_stop, and_last, and_last_stop, or_go, or_stop, every_more, every_stop}
 use Rattle.protocol.specs.Terms.{item}
-use Rattle.schedule.specs.Dates.{exists, date_in, day_number}
+use Rattle.schedule.specs.Dates.{exists, date_in}
 use Rattle.schedule.specs.Working.{weekday, holiday, working_but, working}
 use Rattle.schedule.specs.Windows.{in_turn, days_after}
 use Rattle.schedule.specs.Told.{from_next, weekday_from, moved, planned_on}
 use Rattle.schedule.specs.declared.Days.{Days}
-use Rattle.schedule.specs.declared.Planned.{Planned}
 use Rattle.schedule.specs.declared.Planned.TheVariants.{On, Refused}
 use Rattle.schedule.proofs.Dating.{exists_below}
-use Rattle.schedule.proofs.Planning.{Plan, Clear, More, plan_more, plan_found, next_clear, next_plan, from_weekday}
+use Rattle.schedule.proofs.Planning.{Plan, Clear, More, plan_more, plan_found, next_clear, next_plan}
 
 module _ (holidays : List ℕ) where
   -- the least day that holiday i may have: the one after the holiday before it

@@ -12,7 +12,7 @@ use Rattle.protocol.specs.declared.Verdict.TheVariants.{Accepted, Refused}
 use Rattle.protocol.specs.Answers.{answer_of, verdict_answer}
 use Rattle.protocol.specs.Layout.{first_code}
 use Rattle.protocol.specs.Record.{form_of, parameters_of}
-use Rattle.protocol.specs.Rules.{fault, fault_with}
+use Rattle.protocol.specs.Rules.{fault_with}
 use Rattle.protocol.specs.Judging.{found, found_with, ballot_faults, part_one_faults, part_two_faults, part_three_faults, first_fault, judged}
 use Rattle.protocol.proofs.Faultless.{judged_nothing}
 use Rattle.protocol.proofs.Forms.{code_width}

@@ -1,0 +1,12 @@
+-- `columns::third_row` meets its contract: the first i places are written.
+use Prim.Native.Nat.{◌-◌, ◌≤◌}
+use Rattle.laws.specs.Tables.{Filled}
+use Rattle.protocol.specs.Terms.{item}
+use Rattle.protocol.specs.Columns.{third_offset}
+use Rattle.columns.proofs.third_row.Given as goal
+
+abbrev pub invariant-loop-i : goal.invariant-loop-i
+invariant-loop-i l = (l.i ≤ l.n) × Filled (λ j. third_offset l.modulus (item l.first j) (item l.second j)) l.i l.initial.out l.out
+
+abbrev pub decreases-loop-i : goal.decreases-loop-i
+decreases-loop-i l = l.n - l.i

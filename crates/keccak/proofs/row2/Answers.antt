@@ -1,0 +1,13 @@
+-- `row2` computes `chi2_of` of the gathered lanes.
+use borrow.Author.Rules.{rules}
+use Rattle.keccak.specs.Rows.{numbers, chi2_of}
+use Rattle.keccak.proofs.Numbers.{row_is}
+use Rattle.keccak.proofs.row2.Goals as goal
+
+pub returns : goal.returns
+unfolding chi2_of
+returns c =
+    let b = c in
+    let a = b.args in
+    row_is a.p a.q a.r a.s a.t a.d 1 (chi2_of numbers) b.gather-g.ensures
+    c.turned-b0.ensures c.turned-b1.ensures c.turned-b2.ensures c.turned-b3.ensures c.turned-b4.ensures

@@ -1,0 +1,3 @@
+pub mod Binomials
+pub mod Distances
+pub mod Permutations

@@ -1,0 +1,12 @@
+-- `results::tally::is_fresh` meets its contract.
+use mathlib.Core.Path.{refl}
+use native.Mathlib.Omega.{arith}
+use Rattle.laws.specs.Tests.{differ, or_go, or_stop, is_equal, not_equal}
+use Rattle.results.proofs.tally.is_fresh.Goals as goal
+
+pub returns-then-i-eq0 : goal.returns-then-i-eq0
+returns-then-i-eq0 c = or_stop _ _ (is_equal c.if-i-eq0.true)
+
+pub returns : goal.returns
+unfolding differ
+returns c = or_go _ _ (not_equal (omega arith)) refl

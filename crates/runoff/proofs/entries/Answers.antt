@@ -1,0 +1,15 @@
+-- `runoff::entries` meets its contract: the first i entries are stored.
+use mathlib.Core.Path.{sym, ◌∙◌}
+use native.Mathlib.Omega.{arith}
+use Rattle.runoff.proofs.Filled.{filled_none}
+use Rattle.runoff.proofs.Table.{nobody, stored_entry, all_entries}
+use Rattle.runoff.proofs.entries.Goals as goal
+
+pub loop-i-init : goal.loop-i-init
+loop-i-init c = (omega arith, sym (filled_none nobody _ _))
+
+pub loop-i-preserved : goal.loop-i-preserved
+loop-i-preserved c = (omega arith, stored_entry _ _ _ c.loop-i.invariant.1 (omega arith) (omega arith))
+
+pub returns : goal.returns
+returns c = c.loop-i.invariant.1 ∙ all_entries _ _ _ _ (omega arith) (omega arith) (omega arith)

@@ -1,0 +1,13 @@
+-- `verifier::part_two::compared_faults` meets its contract: no list passed has a fault.
+use mathlib.Core.Path.{◌≡◌}
+use Prim.Native.Nat.{◌-◌, ◌≤◌}
+use Rattle.laws.specs.declared.Found.TheVariants.{Nothing}
+use Rattle.laws.specs.Faults.{first}
+use Rattle.protocol.specs.Judging.{if_compared, link_faults}
+use Rattle.verifier.proofs.part_two.compared_faults.Given as goal
+
+abbrev pub invariant-loop-l : goal.invariant-loop-l
+invariant-loop-l l = (l.l ≤ l.all) × (first (λ k. if_compared l.p l.bytes k (link_faults l.drawn l.p l.bytes k)) l.l ≡ Nothing)
+
+abbrev pub decreases-loop-l : goal.decreases-loop-l
+decreases-loop-l l = l.all - l.l
