@@ -1,13 +1,11 @@
 -- What is known where nothing is refused.
-use mathlib.Core.Path.{◌≡◌, sym, ◌∙◌}
-use mathlib.Core.Bool.{true}
+use mathlib.Core.Path.{◌≡◌}
 use mathlib.Core.List.{List}
 use Prim.Native.Nat.{ℕ, ◌+◌}
-use lib.ListN.{length}
 use Rattle.laws.specs.Faults.{rules}
-use Rattle.protocol.specs.Layout.{part_one_length, part_two_length, part_three_length}
+use Rattle.protocol.specs.Layout.{part_one_length}
 use Rattle.protocol.specs.Inputs.{Slices}
-use Rattle.protocol.specs.Election.{Choice, mask_in_shape, sides_due, sides_binary, election_mask, election_refusal}
+use Rattle.protocol.specs.Election.{Choice, election_mask, election_refusal}
 use Rattle.protocol.proofs.Unrefused.{unrefused}
 use Rattle.protocol.proofs.Whole.{mask_shape, election_iff}
 use Rattle.mixing.specs.Passed.{Passed}

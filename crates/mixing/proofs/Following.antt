@@ -1,6 +1,5 @@
 -- Where list l stands in the slices, and what is read there is what the protocol says of them.
 use mathlib.Core.Path.{◌≡◌, refl, sym, ap, ap₂, ◌∙◌}
-use mathlib.Core.Logic.{◌≢◌}
 use mathlib.Core.List.{List, [], ◌∷◌}
 use Prim.Native.Nat.{ℕ, zero, suc, ◌+◌, ◌*◌, ◌/◌, ◌%◌, ◌≤◌, ◌<◌}
 use native.Mathlib.Nat.{le_of_lt, mul-le-mul_right}
@@ -18,7 +17,7 @@ use Rattle.laws.specs.Writing.{row_within}
 use Rattle.protocol.specs.declared.Parameters.{Parameters}
 use Rattle.protocol.specs.Terms.{item, most_ballots}
 use Rattle.protocol.specs.Tablet.{share, slot}
-use Rattle.protocol.specs.Columns.{row, third_offset, source}
+use Rattle.protocol.specs.Columns.{row, source}
 use Rattle.protocol.specs.Layout.{lists}
 use Rattle.protocol.specs.Inputs.{Slices, Inputs, ballot_numbers, list_numbers, list_permutations, inputs_of}
 use Rattle.protocol.specs.Servers.{ballot_row, ballot_number, row_offset, column, mixed, source_of, entry_number, sum_of_halves}
