@@ -1,7 +1,8 @@
 // The scrutineer's program: reads a record from standard input, judges it as drawn and writes the page of document 01.
 #![tactic(auto)]
 
-ghost use Rattle.std.specs.Prelude.{true, ◌++◌, ◌≡◌, ◌≤◌, length};
+ghost use Rattle.std.specs.Prelude.{true, OnOk, ◌++◌, ◌≡◌, ◌≤◌, length};
+ghost use Rattle.std.specs.Io.KnownBytes.{Appends};
 ghost use Rattle.laws.specs.Writing.{Went};
 ghost use Rattle.protocol.specs.Record.{parameters_of};
 ghost use Rattle.protocol.specs.Judging.{first_fault};
@@ -10,8 +11,9 @@ ghost use Rattle.scrutineer.specs.Lengths.{page_most};
 
 use input::{Input, LONGEST_RECORD};
 use laws::Found;
-use libc::{STDERR_FILENO, STDOUT_FILENO};
 use protocol::MOST_BALLOTS;
+use std::io;
+use std::io::Write;
 
 // The most bytes that a page may have: the first line, the election's of at most 20, and a line of at most 22 for each ballot.
 const LONGEST_PAGE: usize = 9 + 20 + 22 * MOST_BALLOTS;
@@ -63,19 +65,19 @@ fn blank_page() -> [u8; LONGEST_PAGE]
 }
 
 // Prints the page of what was read.
-fn print_page(bytes: &[u8]) {
+fn print_page<W: Write>(out: &mut W, bytes: &[u8]) -> io::Result<()>
+    ensures { OnOk result (Appends (W.contents out.old) (W.contents out.new) (definitions.page bytes.now)) }
+{
     let mut page = blank_page();
     let n = put_page(bytes, &mut page);
-    io::write_all(STDOUT_FILENO, &page[..n]);
+    out.write_all(&page[..n])
 }
 
 // A standard input that cannot be read gets no verdict.
-fn main() {
+fn main(rt: HostRuntime) -> io::Result<()> {
     let mut record = buffer();
-    match input::read_input(&mut record) {
-        Input::Bytes(n) => print_page(&record[..n]),
-        Input::Unreadable => {
-            io::write_all(STDERR_FILENO, b"standard input cannot be read\n");
-        }
+    match input::read_input(&mut rt.stdin(), &mut record) {
+        Input::Bytes(n) => print_page(&mut rt.stdout(), &record[..n]),
+        Input::Unreadable => eprintln!(rt; "standard input cannot be read"),
     }
 }

@@ -9,7 +9,6 @@ use native.Mathlib.Omega.{arith}
 use lib.ListN.{length, drop, get_or}
 use lib.Seq.{drop-cons, drop-length}
 use Rattle.laws.specs.Tests.{at_most, ◌and◌, is_at_most, not_at_most, and_iff, and_stop, and_last_stop}
-use Rattle.teller.specs.declared.Argument.{Argument}
 use Rattle.teller.specs.declared.Argument.TheVariants.{Number, Otherwise}
 use Rattle.teller.specs.Arguments.{said_from, said_by}
 

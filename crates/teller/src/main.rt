@@ -2,7 +2,8 @@
 // as many candidates as its argument says.
 #![tactic(auto)]
 
-ghost use Rattle.std.specs.Prelude.{true, ◌++◌, ◌≡◌, ◌≤◌, min, length};
+ghost use Rattle.std.specs.Prelude.{true, OnOk, ◌++◌, ◌≡◌, ◌≤◌, min, length};
+ghost use Rattle.std.specs.Io.KnownBytes.{Appends};
 ghost use Rattle.laws.specs.Writing.{Went};
 ghost use Rattle.protocol.specs.Terms.{most_ballots};
 ghost use Rattle.protocol.specs.Record.{parameters_of};
@@ -14,8 +15,11 @@ ghost use Rattle.teller.specs.Lengths.{page_most, VotesRoom};
 
 use input::{Input, LONGEST_RECORD};
 use laws::Found;
-use libc::{STDERR_FILENO, STDOUT_FILENO};
 use protocol::{MOST_BALLOTS, Parameters};
+use std::env::FillError;
+use std::io;
+use std::io::Write;
+use std::rt::Env;
 
 // The most bytes that a page may have: the first line, the election's of at most 20, and 13 lines of at most 144.
 const LONGEST_PAGE: usize = 9 + 20 + 13 * 144;
@@ -136,40 +140,43 @@ fn blank_page() -> [u8; LONGEST_PAGE]
 }
 
 // Prints the page of what was read.
-fn print_page(bytes: &[u8], candidates: usize) {
+fn print_page<W: Write>(out: &mut W, bytes: &[u8], candidates: usize) -> io::Result<()>
+    ensures { let page = definitions.runoff_page candidates bytes.now in
+        OnOk result (Appends (W.contents out.old) (W.contents out.new) page) }
+{
     let mut page = blank_page();
     let n = put_page(bytes, candidates, &mut page);
-    io::write_all(STDOUT_FILENO, &page[..n]);
+    out.write_all(&page[..n])
 }
 
 // Reads a record and prints its page. A standard input that cannot be read gets no verdict.
-fn count(candidates: usize) {
+fn count(rt: &(impl io::Input + Print + Eprint), candidates: usize) -> io::Result<()> {
     let mut record = buffer();
-    match input::read_input(&mut record) {
-        Input::Bytes(n) => print_page(&record[..n], candidates),
-        Input::Unreadable => {
-            io::write_all(STDERR_FILENO, b"standard input cannot be read\n");
-        }
+    match input::read_input(&mut rt.reader(), &mut record) {
+        Input::Bytes(n) => print_page(&mut io::writer(rt), &record[..n], candidates),
+        Input::Unreadable => eprintln!(rt; "standard input cannot be read"),
     }
 }
 
-fn usage() {
-    io::write_all(STDERR_FILENO, b"usage: teller CANDIDATES < record\n");
+fn usage(rt: &impl Eprint) -> io::Result<()> {
+    eprintln!(rt; "usage: teller CANDIDATES < record")
 }
 
 // What the first argument says, where there is just one. One of more than 4,096 characters says nothing.
-fn first_argument() -> Argument {
-    if os::arg_count() != 2 {
+fn first_argument(rt: &impl Env) -> Argument {
+    let mut argument = [0; 4096];
+    if !matches!(rt.arg(2, &mut argument), Err(FillError::NotPresent)) {
         return Argument::Otherwise;
     }
-    let mut argument = io::buffer();
-    let n = os::arg(1, &mut argument);
-    said(&argument[..n])
+    match rt.arg(1, &mut argument) {
+        Ok(n) => said(&argument[..n]),
+        Err(_) => Argument::Otherwise,
+    }
 }
 
-fn main() {
-    match first_argument() {
-        Argument::Number(candidates) => count(candidates),
-        Argument::Otherwise => usage(),
+fn main(rt: HostRuntime) -> io::Result<()> {
+    match first_argument(&rt) {
+        Argument::Number(candidates) => count(&rt, candidates),
+        Argument::Otherwise => usage(&rt),
     }
 }

@@ -1,0 +1,20 @@
+-- `scrutineer::put_page` meets its contract: the length is tested first, and then the first fault, judged as drawn.
+use mathlib.Core.Path.{sym}
+use native.Mathlib.Omega.{arith}
+use Rattle.results.proofs.Paging.{too_long, accepted, refused}
+use Rattle.scrutineer.proofs.put_page.Goals as goal
+
+pub returns-then-bytes-gt-LONGEST_RECORD : goal.returns-then-bytes-gt-LONGEST_RECORD
+returns-then-bytes-gt-LONGEST_RECORD c =
+    let written = too_long _ c.if-bytes-gt-LONGEST_RECORD.true c.copy.ensures in
+    record { output = written.0; answer = written.1 }
+
+pub returns-in-Nothing : goal.returns-in-Nothing
+returns-in-Nothing c =
+    let written = accepted c.args.bytes.now (omega arith) (sym c.in-Nothing.ensures) c.put_accepted.ensures in
+    record { output = written.0; answer = written.1 }
+
+pub returns-in-Fault : goal.returns-in-Fault
+returns-in-Fault c =
+    let written = refused c.args.bytes.now _ (omega arith) (sym c.in-Fault.ensures) c.put_refused.ensures in
+    record { output = written.0; answer = written.1 }
