@@ -1,16 +1,12 @@
 -- What decides at a command: no byte left, byte not due, cut short, or its rules.
-use Prim.Native.Nat.{ℕ, suc, ◌+◌, ◌-◌, ◌≤◌, ◌<◌}
+use Prim.Native.Nat.{ℕ, zero, suc, ◌+◌, ◌≤◌, ◌<◌}
 use mathlib.Core.List.{List, [], ◌∷◌}
-use mathlib.Core.Bool.{Bool, not}
+use mathlib.Core.Bool.{Bool}
 use mathlib.Core.Path.{◌≡◌, refl, sym, ap, subst, ◌∙◌}
-use mathlib.Core.Logic.{◌⊎◌, inl, inr}
+use mathlib.Core.Logic.{inl, inr}
 use native.Mathlib.Omega.{arith}
 use lib.ListN.{length}
-use lib.Dec.{T, eqb}
-use mir.Val.{has_key}
-use types.Run.{OneOf, miss}
-use denote.Enum.Declared.{tag_of}
-use Rattle.laws.specs.Tests.{pick, is_below, not_below, is_equal, not_equal, is_at_most, not_at_most}
+use Rattle.laws.specs.Tests.{is_below, not_below, is_equal, not_equal, is_at_most, not_at_most}
 use Rattle.laws.specs.Faults.{rule_go, rule_stop}
 use Rattle.protocol.specs.declared.Form.TheVariants.{Unnumbered, Numbered}
 use Rattle.protocol.specs.declared.Parameters.{Parameters}
@@ -20,30 +16,46 @@ use Rattle.protocol.specs.Terms.{item}
 use Rattle.protocol.specs.Layout.{first_code, number_width, first_width, code, width}
 use Rattle.protocol.specs.Record.{form_of, parameters_of}
 use Rattle.protocol.specs.Rules.{place_of, rules, fault, fault_with}
-use Rattle.protocol.specs.contracts.Due.{the_type}
 use Rattle.protocol.proofs.Forms.{code_is, code_numbered, code_unnumbered, code_width}
 
--- a command's byte is one more than the number of its kind; but the first command's may be 0C
-code_tag : (p : Parameters) (d : Due) → (code p d ≡ suc (tag_of the_type d)) ⊎ ((code p d ≡ 12) × (tag_of the_type d ≡ 0))
-code_tag p First = elim (code_is p.form) [ inl e ↦ inl e | inr e ↦ inr (e, refl) ]
-code_tag p (Ballot j) = inl refl
-code_tag p (Entry l i) = inl refl
-code_tag p FirstDice = inl refl
-code_tag p (Link l j) = inl refl
-code_tag p SecondDice = inl refl
-code_tag p (BallotHalf j) = inl refl
-code_tag p (ListHalf l j) = inl refl
-code_tag p (Vote i) = inl refl
-code_tag p (FullOpening l i) = inl refl
-code_tag p End = inl refl
+-- what an arm for all other due commands knows, by the byte whose own command it leaves out
+abbrev others : List (Due → Type 0)
+others =
+    (λ d. Unit {0})
+    ∷ (λ d. d ≡ First → ⊥)
+    ∷ (λ d. (j : ℕ) → d ≡ Ballot j → ⊥)
+    ∷ (λ d. (l i : ℕ) → d ≡ Entry l i → ⊥)
+    ∷ (λ d. d ≡ FirstDice → ⊥)
+    ∷ (λ d. (l j : ℕ) → d ≡ Link l j → ⊥)
+    ∷ (λ d. d ≡ SecondDice → ⊥)
+    ∷ (λ d. (j : ℕ) → d ≡ BallotHalf j → ⊥)
+    ∷ (λ d. (l j : ℕ) → d ≡ ListHalf l j → ⊥)
+    ∷ (λ d. (i : ℕ) → d ≡ Vote i → ⊥)
+    ∷ (λ d. (l i : ℕ) → d ≡ FullOpening l i → ⊥)
+    ∷ (λ d. d ≡ End → ⊥)
+    ∷ (λ d. d ≡ First → ⊥)
+    ∷ []
 
--- the kinds by number, and those whose byte is not b
-abbrev kinds : List ℕ
-kinds = 0 ∷ 1 ∷ 2 ∷ 3 ∷ 4 ∷ 5 ∷ 6 ∷ 7 ∷ 8 ∷ 9 ∷ 10 ∷ []
+abbrev fact_at : List (Due → Type 0) → ℕ → Due → Type 0
+fact_at [] b d = Unit {0}
+fact_at (f ∷ fs) zero d = f d
+fact_at (f ∷ fs) (suc b) d = fact_at fs b d
 
-abbrev without : ℕ → List ℕ → List ℕ
-without b [] = []
-without b (k ∷ ks) = pick (eqb (suc k) b) (without b ks) (k ∷ without b ks)
+abbrev pub Another : ℕ → Due → Type 0
+Another b d = fact_at others b d
+
+another : {b : ℕ} (p : Parameters) (d : Due) → Another b d → b ≡ code p d → ⊥
+another p First n e = elim (code_is p.form) [ inl c ↦ subst (λ (b : ℕ). Another b First) (e ∙ c) n refl | inr c ↦ subst (λ (b : ℕ). Another b First) (e ∙ c) n refl ]
+another p (Ballot j) n e = subst (λ (b : ℕ). Another b (Ballot j)) e n j refl
+another p (Entry l i) n e = subst (λ (b : ℕ). Another b (Entry l i)) e n l i refl
+another p FirstDice n e = subst (λ (b : ℕ). Another b FirstDice) e n refl
+another p (Link l j) n e = subst (λ (b : ℕ). Another b (Link l j)) e n l j refl
+another p SecondDice n e = subst (λ (b : ℕ). Another b SecondDice) e n refl
+another p (BallotHalf j) n e = subst (λ (b : ℕ). Another b (BallotHalf j)) e n j refl
+another p (ListHalf l j) n e = subst (λ (b : ℕ). Another b (ListHalf l j)) e n l j refl
+another p (Vote i) n e = subst (λ (b : ℕ). Another b (Vote i)) e n i refl
+another p (FullOpening l i) n e = subst (λ (b : ℕ). Another b (FullOpening l i)) e n l i refl
+another p End n e = subst (λ (b : ℕ). Another b End) e n refl
 
 -- a byte that is none of the commands'
 abbrev pub NoCommand : ℕ → Type 0
@@ -73,14 +85,8 @@ module _ (p : Parameters) (r : List ℕ) (drawn : Bool) {at : ℕ} (due : Due) (
     not_due_lem n = rule_go _ _ _ (is_below (omega arith)) (rule_stop _ _ _ (not_equal (λ e. n (ap (item r) place ∙ e))))
 
     -- the due command is of another kind than the byte's
-    pub other_due : {b : ℕ} → item r at ≡ b → b < 12 → OneOf (without b kinds) (tag_of the_type due) → T (not (has_key (without b kinds) (b - 1))) → 2 ≡ fault p r drawn due
-    other_due {b} byte low o h =
-        not_due_lem (λ e. elim (code_tag p due) [ inl t ↦ miss (without b kinds) (b - 1) h (subst (OneOf (without b kinds)) (omega (arith, byte, e, t)) o) | inr t ↦ absurd (omega (arith, byte, e, t.0, low)) ])
-
-    -- the byte is 0C, and the due command not the first
-    pub later_due : item r at ≡ 12 → OneOf (without 1 kinds) (tag_of the_type due) → 2 ≡ fault p r drawn due
-    later_due byte o =
-        not_due_lem (λ e. elim (code_tag p due) [ inl t ↦ miss (without 1 kinds) 11 tt (subst (OneOf (without 1 kinds)) (omega (arith, byte, e, t)) o) | inr t ↦ miss (without 1 kinds) 0 tt (subst (OneOf (without 1 kinds)) t.1 o) ])
+    pub another_due : {b : ℕ} → item r at ≡ b → Another b due → 2 ≡ fault p r drawn due
+    another_due byte n = not_due_lem (λ e. another p due n (sym byte ∙ e))
 
     pub unknown : NoCommand (item r at) → 2 ≡ fault p r drawn due
     unknown h = not_due_lem (no_command p due h)

@@ -1,3 +1,2 @@
 pub mod Faults
 pub mod Known
-pub mod Passed
