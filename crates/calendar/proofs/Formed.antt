@@ -8,7 +8,7 @@ use native.Mathlib.Omega.{arith}
 use lib.Dec.{eqb, leb}
 use lib.ListN.{length, take, drop, length-append, length-drop}
 use lib.Seq.{take_all}
-use Rattle.laws.specs.Tests.{equal, ◌and◌, ◌or◌, every, is_equal, not_equal, is_at_most, not_at_most, equal_is, at_most_is}
+use Rattle.laws.specs.Tests.{equal, ◌or◌, every, is_equal, not_equal, is_at_most, not_at_most, equal_is, at_most_is}
 use Rattle.laws.specs.Tests.{equal_iff, at_most_iff, and_iff, every_iff, and_go, and_stop, and_last_stop, or_go, or_stop, every_stop}
 use Rattle.protocol.specs.Terms.{item}
 use Rattle.protocol.specs.Results.{in_front}

@@ -1,15 +1,19 @@
 // The program that writes an election's calendar: its arguments are the election day and the holidays, rising, each as in 2026-03-31.
 #![tactic(auto)]
 
-ghost use Rattle.std.specs.Prelude.{true, ◌≡◌, ◌-◌, ◌≤◌, ◌<◌, length, drop};
+ghost use Rattle.std.specs.Prelude.{true, OnOk, ◌≡◌, ◌-◌, ◌≤◌, ◌<◌, length, drop};
+ghost use Rattle.std.specs.Io.KnownBytes.{Appends};
 ghost use Rattle.protocol.specs.Terms.{item};
 ghost use Rattle.protocol.specs.Results.{in_front};
 ghost use Rattle.schedule.specs.Dates.{date_in};
 ghost use Rattle.schedule.specs.Page.{schedule_page};
 ghost use Rattle.calendar.specs.Arguments.{is_digit, placed, formed, two_at, said_by, Digits};
 
-use libc::{STDERR_FILENO, STDOUT_FILENO};
 use schedule::page::LONGEST_PAGE;
+use std::env::FillError;
+use std::io;
+use std::io::Write;
+use std::rt::Env;
 
 // The election day and 73,050 holidays. 200 years have 73,049 days, so that this many holidays cannot rise: the calendar refuses them by
 // 22 whatever follows.
@@ -124,11 +128,14 @@ fn blank_page() -> [u8; LONGEST_PAGE]
     [0; LONGEST_PAGE]
 }
 
-// What argument i says. One of more than ten characters says nothing.
-fn argument_at(i: usize) -> Argument {
+// What argument i says, where there is one. One of more than ten characters says nothing.
+fn argument_at(rt: &impl Env, i: usize) -> Option<Argument> {
     let mut text = [0; 10];
-    let n = os::arg(i, &mut text);
-    said(&text[..n])
+    match rt.arg(i, &mut text) {
+        Ok(n) => Some(said(&text[..n])),
+        Err(FillError::TooLong) => Some(Argument::Otherwise),
+        Err(FillError::NotPresent) => None,
+    }
 }
 
 // Puts a number behind the first n, where there is room, and answers how many there are.
@@ -144,41 +151,39 @@ fn put_number(numbers: &mut [u32], n: usize, number: u32) -> usize
 }
 
 // Reads the arguments, and answers how many numbers there are: none where an argument is no date.
-fn read_numbers(numbers: &mut [u32]) -> usize
+fn read_numbers(rt: &impl Env, numbers: &mut [u32]) -> usize
     ensures { (result ≤ length numbers.new) × (length numbers.new ≡ length numbers.old) }
 {
-    let count = os::arg_count();
     let mut n: usize = 0;
-    let mut i: usize = 1;
-    while i < count {
-        let Argument::Number(number) = argument_at(i) else {
-            return 0;
-        };
-        n = put_number(numbers, n, number);
-        i += 1;
+    for i in 1..usize::MAX {
+        match argument_at(rt, i) {
+            Some(Argument::Number(number)) => n = put_number(numbers, n, number),
+            Some(Argument::Otherwise) => return 0,
+            None => return n,
+        }
     }
     n
 }
 
 // Prints the page of what was read.
-fn print_page(numbers: &[u32]) {
+fn print_page<W: Write>(out: &mut W, numbers: &[u32]) -> io::Result<()>
+    ensures { let page = schedule_page (date_in (item numbers.now 0)) (drop 1 numbers.now) in
+        OnOk result (Appends (W.contents out.old) (W.contents out.new) page) }
+{
     let mut page = blank_page();
     let n = put_page(numbers, &mut page);
-    io::write_all(STDOUT_FILENO, &page[..n]);
+    out.write_all(&page[..n])
 }
 
-fn usage() {
-    io::write_all(
-        STDERR_FILENO,
-        b"usage: calendar DATE [HOLIDAY ..], each as in 2026-03-31\n",
-    );
+fn usage(rt: &impl Eprint) -> io::Result<()> {
+    eprintln!(rt; "usage: calendar DATE [HOLIDAY ..], each as in 2026-03-31")
 }
 
-fn main() {
+fn main(rt: HostRuntime) -> io::Result<()> {
     let mut numbers = no_numbers();
-    let n = read_numbers(&mut numbers);
+    let n = read_numbers(&rt, &mut numbers);
     if n == 0 {
-        return usage();
+        return usage(&rt);
     }
-    print_page(&numbers[..n]);
+    print_page(&mut rt.stdout(), &numbers[..n])
 }
