@@ -5,58 +5,61 @@
 ghost use Rattle.std.specs.Prelude.{◌<◌, ◌≤◌, length};
 ghost use Rattle.sha3.specs.Sha3.{Rate};
 
-use libc::STDOUT_FILENO;
 use sha3::Sponge;
+use std::io;
+use std::io::Write;
 
 fn wide(x: u8) -> u64 {
     x as u64
 }
 
 // A digest in hexadecimal, and the end of its line.
-fn write_digest(d: &[u8]) {
-    for i in 0..d.len() {
-        io::print_hex(STDOUT_FILENO, wide(d[i]), 2);
+fn write_digest<W: Write>(out: &mut W, d: &[u8]) -> io::Result<()> {
+    for x in d {
+        write!(out, "{:02x}", wide(*x))?;
     }
-    io::write_all(STDOUT_FILENO, b"\n");
+    out.write_all(b"\n")
 }
 
 // A line: the function, the message's name and the digest.
-fn write_line(function: &[u8], name: &[u8], d: &[u8]) {
-    io::write_all(STDOUT_FILENO, function);
-    io::write_all(STDOUT_FILENO, b" ");
-    io::write_all(STDOUT_FILENO, name);
-    io::write_all(STDOUT_FILENO, b" ");
-    write_digest(d);
+fn write_line<W: Write>(out: &mut W, function: &[u8], name: &[u8], d: &[u8]) -> io::Result<()> {
+    out.write_all(function)?;
+    out.write_all(b" ")?;
+    out.write_all(name)?;
+    out.write_all(b" ")?;
+    write_digest(out, d)
 }
 
 // Both digests of m.
-fn write_both(name: &[u8], m: &[u8]) {
+fn write_both<W: Write>(out: &mut W, name: &[u8], m: &[u8]) -> io::Result<()> {
     let mut d224 = [0u8; 28];
     let mut d256 = [0u8; 32];
     sha3::sha3_224(m, &mut d224);
     sha3::sha3_256(m, &mut d256);
-    write_line(b"SHA3-224", name, &d224);
-    write_line(b"SHA3-256", name, &d256);
+    write_line(out, b"SHA3-224", name, &d224)?;
+    write_line(out, b"SHA3-256", name, &d256)
 }
 
 // The messages of the examples that are short texts.
-fn texts() {
-    write_both(b"empty", b"");
-    write_both(b"abc", b"abc");
+fn texts<W: Write>(out: &mut W) -> io::Result<()> {
+    write_both(out, b"empty", b"")?;
+    write_both(out, b"abc", b"abc")?;
     write_both(
+        out,
         b"448-bits",
         b"abcdbcdecdefdefgefghfghighijhijkijkljklmklmnlmnomnopnopq",
-    );
+    )?;
     write_both(
+        out,
         b"896-bits",
         b"abcdefghbcdefghicdefghijdefghijkefghijklfghijklmghijklmnhijklmnoijklmnopjklmnopqklmnopqrlmnopqrsmnopqrstnopqrstu",
-    );
+    )
 }
 
 // 1600 bits of A3.
-fn many_a3() {
+fn many_a3<W: Write>(out: &mut W) -> io::Result<()> {
     let m = [0xa3u8; 200];
-    write_both(b"a3-200-times", &m);
+    write_both(out, b"a3-200-times", &m)
 }
 
 // Byte i is i modulo 256.
@@ -67,30 +70,30 @@ fn count_up(m: &mut [u8]) {
 }
 
 // Both digests of the first n bytes of m.
-fn write_first(name: &[u8], m: &[u8], n: usize)
+fn write_first<W: Write>(out: &mut W, name: &[u8], m: &[u8], n: usize) -> io::Result<()>
     requires { n ≤ length m.now }
 {
-    write_both(name, &m[..n]);
+    write_both(out, name, &m[..n])
 }
 
 // Lengths around the rates 136 and 144.
-fn lengths(m: &[u8])
+fn lengths<W: Write>(out: &mut W, m: &[u8]) -> io::Result<()>
     requires { 288 ≤ length m.now }
 {
-    write_first(b"135-bytes", m, 135);
-    write_first(b"136-bytes", m, 136);
-    write_first(b"137-bytes", m, 137);
-    write_first(b"143-bytes", m, 143);
-    write_first(b"144-bytes", m, 144);
-    write_first(b"145-bytes", m, 145);
-    write_first(b"272-bytes", m, 272);
-    write_first(b"288-bytes", m, 288);
+    write_first(out, b"135-bytes", m, 135)?;
+    write_first(out, b"136-bytes", m, 136)?;
+    write_first(out, b"137-bytes", m, 137)?;
+    write_first(out, b"143-bytes", m, 143)?;
+    write_first(out, b"144-bytes", m, 144)?;
+    write_first(out, b"145-bytes", m, 145)?;
+    write_first(out, b"272-bytes", m, 272)?;
+    write_first(out, b"288-bytes", m, 288)
 }
 
-fn around_rates() {
+fn around_rates<W: Write>(out: &mut W) -> io::Result<()> {
     let mut m = [0u8; 288];
     count_up(&mut m);
-    lengths(&m);
+    lengths(out, &m)
 }
 
 // Feeds `total` bytes of a, in pieces of 1 to a.len() bytes whose lengths change from turn to turn.
@@ -120,18 +123,19 @@ fn million(rate: usize, out: &mut [u8])
     sha3::finish(s, rate, out);
 }
 
-fn million_both() {
+fn million_both<W: Write>(out: &mut W) -> io::Result<()> {
     let mut d224 = [0u8; 28];
     let mut d256 = [0u8; 32];
     million(144, &mut d224);
     million(136, &mut d256);
-    write_line(b"SHA3-224", b"a-million-times", &d224);
-    write_line(b"SHA3-256", b"a-million-times", &d256);
+    write_line(out, b"SHA3-224", b"a-million-times", &d224)?;
+    write_line(out, b"SHA3-256", b"a-million-times", &d256)
 }
 
-fn main() {
-    texts();
-    many_a3();
-    million_both();
-    around_rates();
+fn main(rt: HostRuntime) -> io::Result<()> {
+    let mut out = rt.stdout();
+    texts(&mut out)?;
+    many_a3(&mut out)?;
+    million_both(&mut out)?;
+    around_rates(&mut out)
 }
