@@ -5,14 +5,16 @@ use std::collections::BTreeMap;
 use std::fs;
 use std::path::{Path, PathBuf};
 
-/// The crates of crates.txt below a root, in its order, each with those that it leans on.
+/// The crates of crates.txt below a root, in its order, each with those that it leans on. Before the
+/// colon stands a name, and behind it what kind of crate it is.
 pub fn listed(root: impl AsRef<Path>) -> Vec<(String, Vec<String>)> {
     let list = fs::read_to_string(root.as_ref().join("crates.txt"));
     let list = list.expect("crates.txt in the root of the repository");
     let lines = list.lines().filter(|line| !line.starts_with('#'));
     let pairs = lines.filter_map(|line| line.split_once(':'));
     let words = |text: &str| text.split_whitespace().map(String::from).collect();
-    pairs.map(|(name, others)| (name.to_string(), words(others))).collect()
+    let name = |head: &str| head.split_whitespace().next().map(String::from);
+    pairs.filter_map(|(head, others)| Some((name(head)?, words(others)))).collect()
 }
 
 /// The files below a folder with this ending, sorted; none where there is no folder.

@@ -1,17 +1,20 @@
 //! Must-fail edits that are tried together: a file of `crates/NAME/must-fail/` with `edit:` lines
-//! is a round of several edits, each in another function, and the prover is asked once for the
-//! whole round. That each of them is refused in the function that it changes is read from what the
-//! prover said of the round; that it changes an answer, from a run of the edited code.
+//! is a round of several edits, each in another function, and the prover is asked for the whole
+//! round, then for those of which it has not said yet what becomes of them. That each is refused in
+//! the function that it changes is read from what the prover said; that it changes an answer, from a
+//! run of the edited code.
 
 pub mod report;
 pub mod rounds;
 pub mod sources;
 pub mod translation;
+pub mod trying;
 
 use report::Verdict;
 use rounds::Edit;
 use sources::{code, Item, Kind, Sources};
 use std::collections::BTreeSet;
+use trying::{last, Try};
 
 /// An edit of a crate that the run tries: the paths of the item that it changes and of the public
 /// function that guards it.
@@ -88,31 +91,29 @@ pub fn resolved<'a>(edit: &Edit, sources: &'a Sources) -> Result<(&'a Item, &'a 
     Ok((item, guard))
 }
 
-/// What is wrong with a round of a crate, given the crate's sources, the prover's report on the
-/// round, and the notes of the run where there was one.
+/// What is wrong with a round of a crate, given the crate's sources, the tries of the round, and the
+/// notes of the run where there was one.
 pub fn faults(
     name: &str,
     edits: &[Edit],
     sources: &Sources,
-    report: &str,
+    tries: &[Try],
     run: Option<&Run>,
 ) -> Vec<String> {
     let mut found = Vec::new();
     let mut changed = BTreeSet::new();
     for edit in edits {
         let mut say = |what: &str| found.push(format!("{name}/{}: {what}", edit.label));
-        let (item, guard) = match resolved(edit, sources) {
-            Ok(pair) => pair,
+        match resolved(edit, sources) {
+            Ok((item, _)) if changed.insert(&item.path) => {}
+            Ok(_) => say("another edit of the round changes the same item"),
             Err(what) => {
                 say(&what);
                 continue;
             }
-        };
-        if !changed.insert(&item.path) {
-            say("another edit of the round changes the same item");
         }
-        let judge = if item.kind == Kind::Function { item } else { guard };
-        match report::verdict(report, name, judge) {
+        let tried = last(tries, edit).map(|one| one.verdict(name, edit, sources));
+        match tried.unwrap_or(Verdict::NotRefused) {
             Verdict::Refused => {}
             Verdict::Misfit => say("no fact refuses it: its proof only no longer fits"),
             Verdict::NotRefused => say("no fact of its own refuses it"),

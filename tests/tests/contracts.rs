@@ -15,11 +15,10 @@ pub fn wide(
     x: u8,
     ensured: u8,
 ) -> u64
-    requires { ⌜ x < 9 ⌝ }
-    ensures output { λ _.
-        let k  = x in
-        ⌜ after out ≡ k ⌝ }
-    ensures answer { λ r. ⌜ r ≡ x ⌝ }
+    requires { x < 9 }
+    ensures output { let k  = x in
+        out.new ≡ k }
+    ensures answer { result ≡ x }
 {
     ensures(x) as u64
 }
@@ -31,7 +30,7 @@ fn ensures(x: u8) -> u8 {
 }
 
 fn last(x: u8) -> u8
-    ensures { λ r. ⌜ r ≡ x ⌝ }
+    ensures { result ≡ x }
 {
     x
 }
@@ -44,7 +43,7 @@ fn sources(files: &[(&str, &str)]) -> Sources {
 
 #[test]
 fn contracts_are_written_with_single_spaces_by_crate_and_path() {
-    let inner = "fn last(x: u8)\n    requires { ⌜ x < 9 ⌝ }\n{\n    x;\n}\n";
+    let inner = "fn last(x: u8)\n    requires { x < 9 }\n{\n    x;\n}\n";
     let late = sources(&[("src/lib.rt", LIB), ("src/inner.rt", inner)]);
     let early = sources(&[("src/main.rt", "fn main() {\n    1\n}\n")]);
     let crates = [("late".to_string(), late), ("early".to_string(), early)].into();
@@ -52,13 +51,13 @@ fn contracts_are_written_with_single_spaces_by_crate_and_path() {
         "early::main",
         "late::ensures",
         "late::inner::last",
-        "    requires { ⌜ x < 9 ⌝ }",
+        "    requires { x < 9 }",
         "late::last",
-        "    ensures { λ r. ⌜ r ≡ x ⌝ }",
+        "    ensures { result ≡ x }",
         "late::wide",
-        "    requires { ⌜ x < 9 ⌝ }",
-        "    ensures output { λ _. let k = x in ⌜ after out ≡ k ⌝ }",
-        "    ensures answer { λ r. ⌜ r ≡ x ⌝ }",
+        "    requires { x < 9 }",
+        "    ensures output { let k = x in out.new ≡ k }",
+        "    ensures answer { result ≡ x }",
         "contracts: 5 functions, 2 requires, 3 ensures",
     ];
     assert_eq!(contracts(&crates), lines);

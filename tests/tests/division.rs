@@ -322,7 +322,7 @@ fn a_later_entry_is_found() {
         ("default_sum", false),
         ("misjudged_sum", false),
     ] {
-        let head = format!("#[no_mangle]\npub extern \"C\" fn paddockyear_{name}(m: u32) -> u32");
+        let head = format!("#[unsafe(no_mangle)]\npub extern \"C\" fn paddockyear_{name}(m: u32) -> u32");
         let new = format!("{head} {{\n    modular::less_two(m, 0, 0, 0)\n}}\n\n{above}");
         let report = searched(&[("paddockyear", LIB, above, &new)]);
         assert_eq!(report.faults, [""; 0]);
@@ -374,13 +374,13 @@ fn literals_and_constants_are_allowed() {
 #[test]
 fn comments_contracts_texts_and_ghost_lines_are_no_code() {
     let counts = searched(&[]).counts(false);
-    let clause = "ensures { λ r. ⌜ (r ≡ modulo.minus m a b) × (r < m) ⌝ }";
+    let clause = "ensures { (result ≡ modulo.minus m a b) × (result < m) }";
     let texts =
         "    let q = b\"a % m \\\" / m\";\n    let q = b'%';\n    let q = '/';\n    a + b\n";
     let edits = [
         (SUM, "    // (a + b) % m\n    a + b // and / m\n"),
-        ("r ≡ modulo.plus m a b)", "r ≡ (a + b) % m)"),
-        (clause, "requires { ⌜ a / m ≡ 0 ⌝ }\n    ensures { λ r.\n        ⌜ r ≡ a % m ⌝ }"),
+        ("result ≡ modulo.plus m a b)", "result ≡ (a + b) % m)"),
+        (clause, "requires { a / m ≡ 0 }\n    ensures { let r = a % m in\n        result ≡ r }"),
         (SUM, "    ghost let q = a % m;\n    a + b\n"),
         (SUM, texts),
         (SUM, "    (a << m) >> m\n"),

@@ -9,6 +9,8 @@ use paddockyear_tests::edits::{faults, never_changed, resolved, unguarded, Run, 
 use std::collections::BTreeMap;
 
 const LIB: &str = "\
+#![tactic(auto)]
+
 mod halves;
 use halves::twice as doubled;
 
@@ -16,7 +18,7 @@ const STEP: u32 = 7;
 
 // Twice x, x + y nowhere.
 pub fn four(x: u32) -> u32
-    ensures { λ r. ⌜ r ≡ x + y ⌝ }
+    ensures { result ≡ x + y }
 {
     // at last
     add(doubled(x), halves::twice(x))
@@ -26,7 +28,7 @@ fn add(x: u32, y: u32) -> u32 {
     x + y
 }
 
-#[no_mangle]
+#[unsafe(no_mangle)]
 pub extern \"C\" fn face(x: &[u32]) -> u32 {
     four(x[0]) + STEP
 }
@@ -131,7 +133,7 @@ fn an_edit_changes_the_body_of_its_item() {
     );
     assert!(signature.contains("body"));
     assert!(
-        wrong("a in four", "src/lib.rt", "λ r. ⌜ r ≡ x", "λ r. ⌜ r ≡ r").contains("body"),
+        wrong("a in four", "src/lib.rt", "{ result ≡ x", "{ result ≡ result").contains("body"),
         "a contract"
     );
     assert!(
@@ -315,11 +317,13 @@ fn an_edited_table_is_a_call() {
 /// lent as slices and by reference.
 const TYPES: &str = "\
 #[repr(C)]
+#[derive(Clone, Copy)]
 pub struct Entry {
     pub count: u64,
     pub left: u32,
 }
 
+#[derive(Clone, Copy)]
 pub enum Answer {
     Counted(u32, u64, u64),
     Refused(u32),
@@ -343,12 +347,12 @@ fn next(before: Rounds, standing: [bool; 9], after: &mut Rounds) -> End {
 }
 
 pub fn count(votes: &[u32], candidates: usize, table: &mut [Entry]) -> Answer
-    ensures { λ r. ⌜ r ≡ r ⌝ }
+    ensures { result ≡ result }
 {
     Answer::Refused(20)
 }
 
-#[no_mangle]
+#[unsafe(no_mangle)]
 pub extern \"C\" fn face(votes: &[u32], table: &mut [Entry], winner: &mut u32, end: &mut End) -> u32 {
     table[0] = Entry { count: 0, left: votes[0] };
     0

@@ -7,8 +7,18 @@ use crate::edits::sources::{Item, Sources};
 use std::collections::BTreeSet;
 
 /// What a line that stands outside of functions and constants may start with; where it ends in a
-/// semicolon, too, it may bring in names or modules.
-const STARTS: [&str; 7] = ["//", "ghost ", "struct ", "enum ", "}", "#[no_mangle]", "#[repr(C)]"];
+/// semicolon, too, it may bring in names or modules. What copies a value divides nothing.
+const STARTS: [&str; 9] = [
+    "//",
+    "ghost ",
+    "struct ",
+    "enum ",
+    "}",
+    "#![tactic(auto)]",
+    "#[unsafe(no_mangle)]",
+    "#[repr(C)]",
+    "#[derive(Clone, Copy)]",
+];
 const STARTS_OF_ONE_LINE: [&str; 2] = ["use ", "mod "];
 
 /// What in a crate is not of that layout.

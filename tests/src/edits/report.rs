@@ -2,7 +2,7 @@
 //! proof, and never that a statement is false, so that an edit which changes nothing may be refused
 //! in the same words as a wrong one: whether it changes an answer is seen by running it.
 
-use super::sources::Item;
+use super::sources::{Item, Sources};
 
 /// What an error says.
 #[derive(Clone, Copy, Debug, PartialEq, Eq, PartialOrd, Ord)]
@@ -23,7 +23,7 @@ pub enum Kind {
 /// What the report says of a function.
 #[derive(Clone, Debug, PartialEq, Eq)]
 pub enum Verdict {
-    /// By a statement of its own, which was left unproved or is not the one shown.
+    /// By a statement of its own, which was left unproved, also by the search, or is not the one shown.
     Refused,
     /// Only because the text of its proof no longer fits the needs of the code.
     Misfit,
@@ -35,8 +35,10 @@ pub enum Verdict {
 
 /// The words by which an error is known, the first that fit. Every kind was seen in reports of this
 /// kit; whatever another one says is unknown until it is read and listed here.
-const WORDS: [(&str, Kind); 18] = [
+const WORDS: [(&str, Kind); 20] = [
     ("was not admitted (", Kind::Consequence),
+    (", which was rejected, w", Kind::Consequence),
+    ("is not in scope", Kind::Consequence),
     ("that can be named from here", Kind::Consequence),
     ("has no field", Kind::Consequence),
     ("binders, but its type has room for only", Kind::OtherNeed),
@@ -79,10 +81,11 @@ fn other_need(message: &str) -> bool {
 }
 
 /// The errors of a report: the place, and the message with the indented lines that go on with it.
+/// What it says while the check goes on, it says again at the end.
 pub fn errors(report: &str) -> Vec<(&str, String)> {
     let mut all: Vec<(&str, String)> = Vec::new();
     let mut open = false;
-    for line in report.lines() {
+    for line in report.lines().filter(|line| !line.starts_with("so far: ")) {
         match (line.split_once(": error: "), all.last_mut()) {
             (Some((place, message)), _) => {
                 all.push((place, message.to_string()));
@@ -110,17 +113,37 @@ pub fn own_errors(report: &str, function: &Item) -> Vec<String> {
     errors(report).into_iter().filter(|(place, _)| is_own(place)).map(|(_, said)| said).collect()
 }
 
-/// What a report on a crate says of a function. One that has no proof file is refused where the
-/// search for its proof fails.
-pub fn verdict(report: &str, library: &str, function: &Item) -> Verdict {
-    let line = format!("fn {library}::{}: ", function.path);
-    let said = report.lines().find_map(|said| said.strip_prefix(&line)).unwrap_or_default();
-    if said.starts_with("no proof: ") {
-        let searched = said.contains("`search` does not close");
-        return if searched { Verdict::Refused } else { Verdict::NotRefused };
-    }
-    if !said.starts_with("not proved") {
+/// The line in which a report says whether a function is proved, behind its name.
+fn line<'a>(report: &'a str, library: &str, function: &Item) -> &'a str {
+    let head = format!("fn {library}::{}: ", function.path);
+    report.lines().find_map(|line| line.strip_prefix(&head)).unwrap_or_default()
+}
+
+/// Whether a report leaves goals of a function untried until what it calls is proved.
+pub fn waits(report: &str, library: &str, function: &Item) -> bool {
+    let said = line(report, library, function);
+    said.contains("it calls `") || said.contains("a call of `")
+}
+
+/// Whether the search for a proof failed at a goal of a function: one that no file of its proof
+/// answers. The report names the place in the code from which the goal comes.
+fn unanswered(report: &str, function: &Item, sources: &Sources) -> bool {
+    let lines = sources.lines(function);
+    let goals = report.lines().filter(|line| line.contains(": it is not proved that "));
+    let places = goals.filter_map(|line| line.strip_prefix("note: ")?.strip_prefix(&function.file));
+    let numbers = places.filter_map(|rest| rest.strip_prefix(':')?.split(':').next()?.parse().ok());
+    let mut own = numbers.filter(|number| lines.contains(number));
+    own.next().is_some()
+}
+
+/// What a report on a crate says of a function.
+pub fn verdict(report: &str, library: &str, function: &Item, sources: &Sources) -> Verdict {
+    let said = line(report, library, function);
+    if !said.starts_with("no proof") && !said.starts_with("not proved") {
         return Verdict::NotRefused;
+    }
+    if said.contains("`search` did not prove `") || unanswered(report, function, sources) {
+        return Verdict::Refused;
     }
     let own = own_errors(report, function);
     if let Some(message) = own.iter().find(|message| kind(message) == Kind::Unknown) {

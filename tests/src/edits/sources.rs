@@ -60,6 +60,12 @@ impl Sources {
         &self.files[&item.file][item.body.clone()]
     }
 
+    /// The numbers of the lines on which an item stands in its file, counted from 1.
+    pub fn lines(&self, item: &Item) -> Range<usize> {
+        let before = |at: usize| self.files[&item.file][..at].matches('\n').count();
+        before(item.whole.start) + 1..before(item.whole.end) + 2
+    }
+
     /// What stands before an item's contract and body: a function's parameters and answer.
     pub fn head(&self, item: &Item) -> &str {
         &self.files[&item.file][item.whole.start..item.contract.start]

@@ -1,12 +1,15 @@
 //! The crates' code in Rust, with every edit beside what it replaces, so that one run of the tests
 //! shows which edits change an answer (`src/edited.rs` runs it). Rattle's code is Rust's but for
-//! the contracts, which are left out, and for `Copy`, which is written here.
+//! the contracts and the attributes, which are left out: every type has those that are written here.
 
 use super::sources::{module_of, Item, Kind, Sources};
 use super::Trial;
 
 /// Where the translated crates stand.
 const ROOT: &str = "crate::edited";
+
+/// The attribute of a type that C reads, the only one that is kept.
+const LAID_OUT: &str = "#[repr(C)]";
 
 /// One crate: its name, the crates that it leans on, and its sources.
 pub struct Library {
@@ -85,7 +88,7 @@ fn between(lib: &Library, name: &str, text: &str, trials: &[Trial]) -> Result<St
             all += &format!("pub mod {inner} {{\n{}}}\n", file(lib, &path, trials)?);
         } else if words.starts_with("struct ") || words.starts_with("enum ") {
             all += &format!("#[derive(Clone, Copy, Debug, PartialEq)]\n{line}\n");
-        } else if !words.starts_with("ghost ") && !line.starts_with("#[no_mangle]") {
+        } else if line == LAID_OUT || !words.starts_with("ghost ") && !line.starts_with('#') {
             all += &format!("{line}\n");
         }
     }
