@@ -1,10 +1,11 @@
 //! The reading of must-fail rounds: what an edit may change, what counts as refused, on reports
 //! that the prover wrote (`edits/*.report`, long lines cut), and what a run shows.
 
-use paddockyear_tests::edits::report::{errors, kind, verdict, Kind, Verdict};
+use paddockyear_tests::edits::report::{errors, kind, verdict, waits, Kind, Verdict};
 use paddockyear_tests::edits::rounds::{parse, Edit};
 use paddockyear_tests::edits::sources::{Item, Sources};
 use paddockyear_tests::edits::translation::{translated, Library};
+use paddockyear_tests::edits::trying::Try;
 use paddockyear_tests::edits::{faults, never_changed, resolved, unguarded, Run, Trial};
 use std::collections::BTreeMap;
 
@@ -46,7 +47,8 @@ fn add(x: u32) -> u32 {
 }
 ";
 
-/// The controls and the first round of `wire` as it was when the reports were written.
+/// `wire` as it was when the reports on the controls and its first round were written, and a report
+/// on a crate of modules.
 const WIRE: &str = include_str!("edits/wire.source");
 const CONTROLS: &str = include_str!("edits/controls/wire.edit");
 const CONTROLS_REPORT: &str = include_str!("edits/controls.report");
@@ -60,6 +62,12 @@ fn sources() -> Sources {
 
 fn wire() -> Sources {
     Sources::new([("src/lib.rt".to_string(), WIRE.to_string())].into())
+}
+
+/// One try of edits, with this report.
+fn tried(edits: &[Edit], report: &str) -> Try {
+    let labels = edits.iter().map(|edit| edit.label.clone()).collect();
+    Try { labels, report: report.to_string() }
 }
 
 fn edit(head: &str, file: &str, old: &str, new: &str) -> Edit {
@@ -175,11 +183,13 @@ fn the_prover_says_what_is_listed() {
     assert!(!kinds(ROUND_REPORT).contains(&Kind::Unknown));
     assert!(kinds(ROUND_REPORT).contains(&Kind::Unproved));
     assert_eq!(
-        kinds("/r/proofs/f/Proof.antt:1:1: error: `f`: a level is too high\n"),
+        kinds("./proofs/f/Answers.antt:1:1: error: `f`: a level is too high\n"),
         [Kind::Unknown]
     );
     let more = "`f`: this λ has 2 binders, but its type has room for only 1: at `κs` the type is";
-    assert_eq!(kinds(&format!("/r/proofs/f/Proof.antt:1:1: error: {more}\n")), [Kind::OtherNeed]);
+    let said = format!("./proofs/f/Answers.antt:1:1: error: {more}\n");
+    assert_eq!(kinds(&said), [Kind::OtherNeed]);
+    assert_eq!(kinds(&format!("so far: {said}")), []);
 }
 
 #[test]
@@ -187,7 +197,7 @@ fn wrong_edits_are_refused_by_their_own_functions() {
     let all = wire();
     for name in ["read1", "read2", "read4", "read8", "put1", "put2", "put4", "copy", "same_bytes"] {
         let function = all.at(name).expect("a function of wire");
-        assert_eq!(verdict(ROUND_REPORT, "wire", function), Verdict::Refused, "{name}");
+        assert_eq!(verdict(ROUND_REPORT, "wire", function, &all), Verdict::Refused, "{name}");
     }
 }
 
@@ -196,51 +206,110 @@ fn a_consequence_is_no_refusal() {
     let all = wire();
     for name in ["put2", "put4", "read4", "read8", "read1"] {
         let function = all.at(name).expect("a function of wire");
-        assert_eq!(verdict(CONTROLS_REPORT, "wire", function), Verdict::NotRefused, "{name}");
+        assert_eq!(verdict(CONTROLS_REPORT, "wire", function, &all), Verdict::NotRefused, "{name}");
+        assert_eq!(waits(CONTROLS_REPORT, "wire", function), !["read1", "read8"].contains(&name));
     }
     let function = all.at("put1").expect("put1");
-    assert_eq!(verdict(ROUND_REPORT, "other", function), Verdict::NotRefused);
-    assert_eq!(verdict("", "wire", function), Verdict::NotRefused, "a round that was not tried");
+    assert_eq!(verdict(ROUND_REPORT, "other", function, &all), Verdict::NotRefused);
+    assert_eq!(verdict("", "wire", function, &all), Verdict::NotRefused, "what was not tried");
+}
+
+/// A goal that no file answers is one of the function in whose code it is.
+#[test]
+fn a_failed_search_is_a_refusal() {
+    let all = sources();
+    let add = item("add");
+    let first = LIB.lines().position(|line| line.starts_with("fn add(")).expect("a line") + 1;
+    let said = |line: usize| {
+        let place = "./proofs/add/Answers.antt:3:9: error: `returns-then-x-lt9`";
+        format!(
+            "{place}: module `Goals` has no `returns-then-x-lt9` that can be named from here\n\
+             note: src/lib.rt:{line}:5: it is not proved that what the function ensures holds when \
+             it returns (`returns-then-x-le9`); `search` gave up at one of its limits\n\
+             fn c::add: not proved\n"
+        )
+    };
+    for line in first..first + 3 {
+        assert_eq!(verdict(&said(line), "c", &add, &all), Verdict::Refused, "{line}");
+    }
+    for line in [1, first - 1, first + 3] {
+        assert_eq!(verdict(&said(line), "c", &add, &all), Verdict::NotRefused, "{line}");
+    }
+    let elsewhere = said(first).replace("src/lib.rt", "src/halves.rt");
+    assert_eq!(verdict(&elsewhere, "c", &add, &all), Verdict::NotRefused);
+    let proved = said(first).replace("not proved\n", "proved\n");
+    assert_eq!(verdict(&proved, "c", &add, &all), Verdict::NotRefused);
+    let without = "expected answers in ./proofs/add/Answers.antt; `search` did not prove `returns`";
+    let report = format!("fn c::add: no proof: {without}\n");
+    assert_eq!(verdict(&report, "c", &add, &all), Verdict::Refused);
+}
+
+/// An edit counts by the last try that has it.
+#[test]
+fn a_function_that_waits_is_tried_again() {
+    let edits = [
+        edit("lower in add for four", "src/lib.rt", "    x + y", "    x"),
+        edit("upper in four", "src/lib.rt", "doubled(x), halves", "doubled(0), halves"),
+    ];
+    let said = "it calls `c::add`, which is not proved";
+    let first = format!(
+        "fn c::add: no proof: expected answers in ./proofs/add/Answers.antt; `search` did not \
+         prove `returns`\nfn c::four: no proof: {said}\n"
+    );
+    let all = sources();
+    assert!(waits(&first, "c", &item("four")) && !waits(&first, "c", &item("add")));
+    let of = |tries: &[Try]| faults("c", &edits, &all, tries, None);
+    let one = tried(&edits, &first);
+    assert_eq!(of(&[one.clone()]), ["c/upper: no fact of its own refuses it"]);
+    let second = first.replace("c::add: ", "c::other: ").replace(said, "`search` did not prove `r`");
+    let again = tried(&edits[1..], &second);
+    assert_eq!(of(&[one.clone(), again.clone()]), [""; 0]);
+    assert_eq!(of(&[again, one]), ["c/upper: no fact of its own refuses it"]);
+    assert_eq!(of(&[]).len(), 2);
+}
+
+#[test]
+fn tries_are_kept_as_they_were() {
+    let edits = [edit("lower in add for four", "src/lib.rt", "    x + y", "    x")];
+    let one = tried(&edits, "fn c::add: not proved\n");
+    let read = Try::read(&one.written()).expect("a try");
+    assert_eq!((&read.labels, &read.report), (&one.labels, &one.report));
+    assert!(Try::read("fn c::add: not proved\n").is_none());
 }
 
 #[test]
 fn unknown_words_are_told() {
-    let report = "/r/proofs/add/Proof.antt:1:1: error: `add`: a level is too high\n\
-                  /r/proofs/add/Proof.antt:9:3: error: `r`: \
+    let report = "./proofs/add/Answers.antt:1:1: error: `add`: a level is too high\n\
+                  ./proofs/add/Answers.antt:9:3: error: `r`: \
                   `omega`: the goal does not follow from what it read.\n\
                   fn c::add: not proved\n";
-    let told = verdict(report, "c", &item("add"));
+    let told = verdict(report, "c", &item("add"), &sources());
     assert_eq!(told, Verdict::Unknown("`add`: a level is too high".to_string()));
 }
 
 #[test]
 fn functions_of_modules_are_told_apart() {
     let twice = item("halves::twice");
-    assert_eq!(verdict(MODULES_REPORT, "mods", &twice), Verdict::Refused);
+    let said = |report: &str, function: &Item| verdict(report, "mods", function, &sources());
+    assert_eq!(said(MODULES_REPORT, &twice), Verdict::Refused);
     let shared = MODULES_REPORT.replace("halves/twice", "halves/+twice+other");
-    assert_eq!(verdict(&shared, "mods", &twice), Verdict::Refused);
-    let elsewhere = MODULES_REPORT.replace("/halves/twice/Proof", "/twice/Proof");
-    assert_eq!(
-        verdict(&elsewhere, "mods", &twice),
-        Verdict::NotRefused,
-        "another module's function"
-    );
-    assert_eq!(verdict(MODULES_REPORT, "mods", &item("four")), Verdict::NotRefused);
+    assert_eq!(said(&shared, &twice), Verdict::Refused);
+    let elsewhere = MODULES_REPORT.replace("/halves/twice/Answers", "/twice/Answers");
+    assert_eq!(said(&elsewhere, &twice), Verdict::NotRefused, "another module's function");
+    assert_eq!(said(MODULES_REPORT, &item("four")), Verdict::NotRefused);
 }
 
-/// The prover refuses the controls too: one because its proof no longer fits, two in the words that
-/// a wrong edit gets. The run is what tells them from wrong ones.
+/// The prover refuses two of the controls in the words that a wrong edit gets. The run is what tells
+/// them from wrong ones.
 #[test]
 fn controls_change_nothing() {
     let edits = parse(CONTROLS).expect("the controls");
     let run = Run::read(
         "tried wire/last_eight_bits\ntried wire/factor_in_front\ntried wire/next_place_within\n",
     );
-    let said = |run| faults("wire", &edits, &wire(), CONTROLS_REPORT, run);
-    assert_eq!(
-        said(None),
-        ["wire/next_place_within: no fact refuses it: its proof only no longer fits"]
-    );
+    let tries = [tried(&edits, CONTROLS_REPORT)];
+    let said = |run| faults("wire", &edits, &wire(), &tries, run);
+    assert_eq!(said(None), ["wire/next_place_within: no fact of its own refuses it"]);
     for edit in &edits {
         let line = format!("wire/{}: it changes nothing on any call of the tests", edit.label);
         assert!(said(Some(&run)).contains(&line));
@@ -250,8 +319,10 @@ fn controls_change_nothing() {
 #[test]
 fn a_wrong_edit_changes_an_answer() {
     let top = edit("top in put1", "src/lib.rt", "(x % 256) as u8", "(x / 16777216) as u8");
+    let tries = |edits: &[Edit]| [tried(edits, ROUND_REPORT)];
     let said = |notes: &str| {
-        faults("wire", std::slice::from_ref(&top), &wire(), ROUND_REPORT, Some(&Run::read(notes)))
+        let top = std::slice::from_ref(&top);
+        faults("wire", top, &wire(), &tries(top), Some(&Run::read(notes)))
     };
     assert!(said("tried wire/top\nchanged wire/top\n").is_empty());
     assert_eq!(said("tried wire/top\n"), ["wire/top: it changes nothing on any call of the tests"]);
@@ -262,10 +333,11 @@ fn a_wrong_edit_changes_an_answer() {
     );
     let unseen = parse(&told).expect("an edit");
     let said =
-        |notes: &str| faults("wire", &unseen, &wire(), ROUND_REPORT, Some(&Run::read(notes)));
+        |notes: &str| faults("wire", &unseen, &wire(), &tries(&unseen), Some(&Run::read(notes)));
     assert!(said("tried wire/a\n").is_empty());
     assert!(said("changed wire/a\n")[0].contains("no run sees it"));
-    let twice = faults("wire", &[top.clone(), top.clone()], &wire(), ROUND_REPORT, None);
+    let both = [top.clone(), top.clone()];
+    let twice = faults("wire", &both, &wire(), &tries(&both), None);
     assert!(twice[0].contains("changes the same item"));
 }
 
