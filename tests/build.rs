@@ -17,7 +17,7 @@ fn main() {
 fn archive_folder() -> PathBuf {
     match env::var_os("PADDOCKYEAR_ARCHIVE") {
         Some(folder) => PathBuf::from(folder),
-        None => Path::new(env!("CARGO_MANIFEST_DIR")).join("../target/staticlib"),
+        None => Path::new(env!("CARGO_MANIFEST_DIR")).join("../crates/paddockyear/out"),
     }
 }
 

@@ -196,7 +196,7 @@ fn functions_are_reached_by_every_way_of_naming_them() {
     let above = "// The byte at a place.\n";
     let new = format!("pub fn reduced(x: u32, m: u32) -> u32 {{\n    x + m\n}}\n\n{above}");
     let leaf = ("wire", LIB, above, &new[..]);
-    let head = "use protocol::Parameters;\n";
+    let head = "use protocol::{Parameters, Place};\n";
     let calls = [
         ("use wire::reduced;\n", "reduced(list, modulus)"),
         ("use wire::reduced as folded;\n", "folded(list, modulus)"),
@@ -394,12 +394,18 @@ fn comments_contracts_texts_and_ghost_lines_are_no_code() {
 
 // ---- the program
 
-/// A copy of crates.txt and the crates' sources in a folder of its own.
-fn copied(name: &str) -> PathBuf {
-    let folder = Path::new(env!("CARGO_TARGET_TMPDIR")).join(name);
-    if folder.exists() {
-        fs::remove_dir_all(&folder).expect("an old copy that goes");
+/// A copy of crates.txt and the crates' sources in a folder of its own, which goes with it. It is not
+/// in the repository, where no source may be beside those of the crates.
+struct Copied(PathBuf);
+
+impl Drop for Copied {
+    fn drop(&mut self) {
+        let _ = fs::remove_dir_all(&self.0);
     }
+}
+
+fn copied(name: &str) -> Copied {
+    let folder = std::env::temp_dir().join(format!("{name}-{}", std::process::id()));
     let root = Path::new(ROOT);
     let mut paths = files(&root.join("crates"), "rt");
     paths.push(root.join("crates.txt"));
@@ -408,7 +414,7 @@ fn copied(name: &str) -> PathBuf {
         fs::create_dir_all(to.parent().expect("a folder")).expect("a new folder");
         fs::copy(path, to).expect("a copy");
     }
-    folder
+    Copied(folder)
 }
 
 /// Whether the program is content in a folder, and what it prints.
@@ -421,7 +427,7 @@ fn run(folder: &Path) -> (Option<i32>, Vec<String>) {
 
 #[test]
 fn the_program_passes_on_a_copy() {
-    let (status, lines) = run(&copied("division-as-it-is"));
+    let (status, lines) = run(&copied("division-as-it-is").0);
     assert_eq!(status, Some(0));
     let last = lines.last().expect("a last line");
     let numbers: Vec<usize> = last.split(' ').filter_map(|word| word.parse().ok()).collect();
@@ -438,11 +444,11 @@ fn the_program_passes_on_a_copy() {
 #[test]
 fn the_program_fails_on_an_edited_copy() {
     let folder = copied("division-edited");
-    let file = folder.join("crates/modular").join(LIB);
+    let file = folder.0.join("crates/modular").join(LIB);
     let text = fs::read_to_string(&file).expect("a source");
     assert_eq!(text.matches(SUM).count(), 1);
     fs::write(&file, text.replace(SUM, "    (a + b) % m\n")).expect("an edited source");
-    let (status, lines) = run(&folder);
+    let (status, lines) = run(&folder.0);
     assert_eq!(status, Some(1));
     let line = format!("division: {}", unlisted("modular::plus", "% m"));
     assert!(lines.contains(&line));

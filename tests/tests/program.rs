@@ -1,6 +1,6 @@
 //! The pages of the programs beside the reference's: `PADDOCKYEAR_PROGRAM` names `scrutineer`,
 //! `PADDOCKYEAR_TELLER` names `teller` and `PADDOCKYEAR_CALENDAR` names `calendar`, which are else
-//! looked for in `../target/bin`.
+//! looked for where `rt ci` and `rt run` leave them, in `../crates/NAME/out`.
 
 use std::ffi::OsStr;
 use std::fs;
@@ -24,7 +24,8 @@ use paddockyear_tests::reference::terms::{Form, Parameters};
 use paddockyear_tests::reference::writer::Secrets;
 
 fn program(variable: &str, name: &str) -> PathBuf {
-    let built = || Path::new(env!("CARGO_MANIFEST_DIR")).join("../target/bin").join(name);
+    let crates = Path::new(env!("CARGO_MANIFEST_DIR")).join("../crates");
+    let built = || crates.join(name).join("out").join(name);
     std::env::var_os(variable).map_or_else(built, PathBuf::from)
 }
 
