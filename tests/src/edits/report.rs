@@ -113,6 +113,11 @@ pub fn own_errors(report: &str, function: &Item) -> Vec<String> {
     errors(report).into_iter().filter(|(place, _)| is_own(place)).map(|(_, said)| said).collect()
 }
 
+/// Whether a report ends with a verdict on its crate.
+pub fn is_whole(report: &str) -> bool {
+    report.lines().any(|line| line.starts_with("logic="))
+}
+
 /// The line in which a report says whether a function is proved, behind its name.
 fn line<'a>(report: &'a str, library: &str, function: &Item) -> &'a str {
     let head = format!("fn {library}::{}: ", function.path);

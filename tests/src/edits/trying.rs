@@ -153,14 +153,14 @@ fn emptied(folder: &Path) -> io::Result<()> {
 /// A copy of the repository in which crates are edited and checked, begun with what was kept of the
 /// checks of the crates as they are. It is outside of the repository, where no crate may be beside
 /// those that are listed.
-pub struct Room {
+struct Room {
     root: PathBuf,
     folder: PathBuf,
 }
 
 impl Room {
     /// A room in a folder, which is not there yet, for the repository at a root.
-    pub fn new(root: &Path, folder: PathBuf) -> io::Result<Self> {
+    fn new(root: &Path, folder: PathBuf) -> io::Result<Self> {
         let room = Self { root: root.to_path_buf(), folder };
         fs::create_dir_all(&room.folder)?;
         for name in ["crates.txt", "HANDLES"] {
@@ -185,24 +185,36 @@ impl Room {
         Ok(())
     }
 
-    /// All that the prover says of a crate with these edits.
-    pub fn check(&self, name: &str, edits: &[Edit], sources: &Sources) -> io::Result<String> {
+    /// All that the prover says of a crate with these edits. It is asked once more where it comes to
+    /// no verdict, as where it was killed.
+    fn check(&self, name: &str, edits: &[Edit], sources: &Sources) -> io::Result<String> {
         let place = self.folder.join("crates").join(name);
-        let known = format!("crates/{name}/out/incremental");
-        self.copy(&known)?;
         for (file, text) in &sources.files {
             let of_file = edits.iter().filter(|edit| edit.file == *file);
             let edited = of_file.fold(text.clone(), |text, edit| applied(edit, &text));
             fs::write(place.join(file), edited)?;
         }
-        let mut check = Command::new("rt");
-        check.args(["check", "--jobs", "1"]).current_dir(&place).stdin(Stdio::null());
-        let ran = check.output()?;
+        let mut said = self.asked(name)?;
+        if !report::is_whole(&said) {
+            said = self.asked(name)?;
+        }
         for (file, text) in &sources.files {
             fs::write(place.join(file), text)?;
         }
-        fs::remove_dir_all(self.folder.join(&known))?;
-        Ok(String::from_utf8_lossy(&ran.stdout).to_string() + &String::from_utf8_lossy(&ran.stderr))
+        Ok(said)
+    }
+
+    /// Asks the prover for a crate as it is in the room, begun with what was kept.
+    fn asked(&self, name: &str) -> io::Result<String> {
+        let place = self.folder.join("crates").join(name);
+        let known = place.join("out/incremental");
+        emptied(&known)?;
+        self.copy(&format!("crates/{name}/out/incremental"))?;
+        let mut check = Command::new("rt");
+        check.args(["check", "--jobs", "1"]).current_dir(&place).stdin(Stdio::null());
+        let ran = check.output()?;
+        fs::remove_dir_all(&known)?;
+        Ok([ran.stdout, ran.stderr].map(|said| String::from_utf8_lossy(&said).to_string()).concat())
     }
 }
 
