@@ -322,7 +322,8 @@ fn a_later_entry_is_found() {
         ("default_sum", false),
         ("misjudged_sum", false),
     ] {
-        let head = format!("#[unsafe(no_mangle)]\npub extern \"C\" fn paddockyear_{name}(m: u32) -> u32");
+        let head =
+            format!("#[unsafe(no_mangle)]\npub extern \"C\" fn paddockyear_{name}(m: u32) -> u32");
         let new = format!("{head} {{\n    modular::less_two(m, 0, 0, 0)\n}}\n\n{above}");
         let report = searched(&[("paddockyear", LIB, above, &new)]);
         assert_eq!(report.faults, [""; 0]);

@@ -261,7 +261,8 @@ fn a_function_that_waits_is_tried_again() {
     let of = |tries: &[Try]| faults("c", &edits, &all, tries, None);
     let one = tried(&edits, &first);
     assert_eq!(of(&[one.clone()]), ["c/upper: no fact of its own refuses it"]);
-    let second = first.replace("c::add: ", "c::other: ").replace(said, "`search` did not prove `r`");
+    let second =
+        first.replace("c::add: ", "c::other: ").replace(said, "`search` did not prove `r`");
     let again = tried(&edits[1..], &second);
     assert_eq!(of(&[one.clone(), again.clone()]), [""; 0]);
     assert_eq!(of(&[again, one]), ["c/upper: no fact of its own refuses it"]);
