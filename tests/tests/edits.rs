@@ -260,7 +260,7 @@ fn a_function_that_waits_is_tried_again() {
     assert!(waits(&first, "c", &item("four")) && !waits(&first, "c", &item("add")));
     let of = |tries: &[Try]| faults("c", &edits, &all, tries, None);
     let one = tried(&edits, &first);
-    assert_eq!(of(&[one.clone()]), ["c/upper: no fact of its own refuses it"]);
+    assert_eq!(of(std::slice::from_ref(&one)), ["c/upper: no fact of its own refuses it"]);
     let second =
         first.replace("c::add: ", "c::other: ").replace(said, "`search` did not prove `r`");
     let again = tried(&edits[1..], &second);
