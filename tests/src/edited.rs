@@ -18,6 +18,9 @@ include!(env!("PADDOCKYEAR_EDITED"));
 /// No edit is on, and none is tried further inside.
 pub const NONE: usize = usize::MAX;
 
+/// The trait of types that contracts see as something else. No contract is left here.
+pub trait Model {}
+
 /// An edit is tried until this much work was done for it, in one test program: turns of loops and
 /// calls of functions that have edits. (Not time, so that a loaded machine finds the same.)
 const MOST_WORK: u64 = 10_000_000;

@@ -13,7 +13,7 @@ const ROOT: &str = concat!(env!("CARGO_MANIFEST_DIR"), "/..");
 const LIB: &str = "src/lib.rt";
 
 /// The last expression of `modular::plus`, the judge's sum modulo M; M is `m` there.
-const SUM: &str = "    a + b\n";
+const SUM: &str = "    if room <= a { a - room } else { a + b }\n";
 
 /// The judge's sum of a list's numbers, in `opening_rules::halves_agree`.
 const SUM_IN_RULE: &str = "modular::plus(modulus, list, t)";
@@ -78,7 +78,7 @@ fn the_walk_reaches_what_the_judge_is_made_of() {
         "modular::plus",
         "modular::minus",
         "copies::first_copy",
-        "sorting::merge_halves",
+        "sorting::is_permutation",
         "challenge::list_chosen",
         "wire::read1",
         "layout::rank",
@@ -147,11 +147,10 @@ fn a_literal_with_m_beside_it_is_refused() {
 
 #[test]
 fn a_nested_division_is_refused() {
-    let old = "modular::plus(modulus, two, wire::read4(bytes, at + 104))";
-    let new =
-        "modular::plus(modulus, two, (wire::read4(bytes, (at + 104) / 1) + (7 % modulus)) - 0)";
+    let old = "modular::plus(modulus, sum, number_at(bytes, at, i))";
+    let new = "modular::plus(modulus, sum, (number_at(bytes, at / 1, i) + (7 % modulus)) - 0)";
     let report = searched(&[("opening_rules", LIB, old, new)]);
-    assert_eq!(report.faults, [unlisted("opening_rules::sum_of_three", "% modulus")]);
+    assert_eq!(report.faults, [unlisted("opening_rules::sum", "% modulus")]);
 }
 
 #[test]
@@ -196,7 +195,7 @@ fn functions_are_reached_by_every_way_of_naming_them() {
     let above = "// The byte at a place.\n";
     let new = format!("pub fn reduced(x: u32, m: u32) -> u32 {{\n    x + m\n}}\n\n{above}");
     let leaf = ("wire", LIB, above, &new[..]);
-    let head = "use protocol::{Parameters, Place};\n";
+    let head = "use protocol::{Parameters, Place, Rule};\n";
     let calls = [
         ("use wire::reduced;\n", "reduced(list, modulus)"),
         ("use wire::reduced as folded;\n", "folded(list, modulus)"),
@@ -229,10 +228,15 @@ fn modules_are_walked_from_above_and_below() {
     let new = format!("fn folded(p: u32) -> u32 {{\n    super::folded(p)\n}}\n\n{head}");
     let lib = "// ---- the whole record\n";
     let above = format!("fn folded(p: u32) -> u32 {{\n    7 % p\n}}\n\n{lib}");
-    let call = "    let at = layout::at_end(p);\n";
+    let call = "    let at = layout::at_end(r.parameters);\n";
     let report = searched(&[
         ("verifier", "src/part_three.rt", head, &new),
-        ("verifier", "src/part_three.rt", call, &format!("    self::folded(p.modulus);\n{call}")),
+        (
+            "verifier",
+            "src/part_three.rt",
+            call,
+            &format!("    self::folded(r.parameters.modulus);\n{call}"),
+        ),
         ("verifier", LIB, lib, &above),
     ]);
     assert_eq!(report.faults, [unlisted("verifier::folded", "% p")]);
@@ -242,13 +246,14 @@ fn modules_are_walked_from_above_and_below() {
 
 #[test]
 fn constants_are_searched() {
-    let literal = ("sorting", LIB, "const FEW: usize = 16;", "const FEW: usize = 32 / 2;");
+    let most = "const MOST_BALLOTS: usize = 4096;";
+    let literal = ("protocol", LIB, most, "const MOST_BALLOTS: usize = 8192 / 2;");
     let report = searched(&[literal]);
     assert_eq!(report.faults, [""; 0]);
-    assert!(found(&report, "sorting::FEW", "/ 2").judged);
-    let call = ("sorting", LIB, "const FEW: usize = 16;", "const FEW: usize = 32 / half();");
+    assert!(found(&report, "protocol::MOST_BALLOTS", "/ 2").judged);
+    let call = ("protocol", LIB, most, "const MOST_BALLOTS: usize = 8192 / half();");
     let report = searched(&[call]);
-    assert!(report.faults.contains(&unlisted("sorting::FEW", "/ half()")));
+    assert!(report.faults.contains(&unlisted("protocol::MOST_BALLOTS", "/ half()")));
     let length = ("modular", LIB, "plus(m: u32,", "plus(m: [u8; 9 / n],");
     assert_eq!(searched(&[length]).faults, [unlisted("modular::plus", "/ n")]);
 }
@@ -257,7 +262,7 @@ fn constants_are_searched() {
 
 #[test]
 fn an_exception_that_is_not_met_is_refused() {
-    let no_draw = ("challenge", LIB, "if h % (lists as u64) < ", "if h < ");
+    let no_draw = ("challenge", LIB, "h % (lists as u64) < ", "h < ");
     let stale = "challenge::list_chosen: `(lists as u64)`: listed and not met";
     assert_eq!(searched(&[no_draw]).faults, [stale]);
     let one = Listed { function: "modular::plus", divisor: "m", reason: "it is M" };
@@ -335,7 +340,10 @@ fn a_later_entry_is_found() {
 #[test]
 fn sources_that_would_not_be_searched_are_refused() {
     let edits = [
-        ("impl Sum for u32 {\n    fn plus(a: u32, m: u32) {\n        a % m;\n    }\n}\n", "`impl"),
+        (
+            "impl Sum for u32 {\n    fn plus(a: u32, m: u32) {\n        a % m;\n    }\n}\n",
+            "u32::plus: `% m`",
+        ),
         ("fn folded(a: u32, m: u32) -> u32 { a % m }\n", "folded: its end is not found"),
         ("mod inner {\n    fn folded(a: u32) {}\n}\n", "`mod inner {`: an unknown item"),
         ("pub fn minus() {\n    1\n}\n", "modular::minus: it is there twice"),
@@ -365,9 +373,9 @@ fn literals_and_constants_are_allowed() {
         assert_eq!(report.faults, [""; 0], "{new}");
         assert_eq!(report.counts(true), (literals + 1, listed), "{new}");
     }
-    let old = "    let mid = n / 2;\n";
-    for name in ["FEW", "(FEW / 8)", "crate::FEW", "protocol::MOST_BALLOTS"] {
-        let report = searched(&[("sorting", LIB, old, &format!("    let mid = n / {name};\n"))]);
+    let (file, old) = ("src/original.rt", "(beginning / 131072)");
+    for name in ["BUCKETS", "(BUCKETS / 8)", "self::BUCKETS", "protocol::MOST_BALLOTS"] {
+        let report = searched(&[("refusals", file, old, &format!("(beginning / {name})"))]);
         assert_eq!(report.faults, [""; 0], "{name}");
     }
 }

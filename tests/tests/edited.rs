@@ -5,10 +5,9 @@
 use paddockyear_tests::boards::copies::{ballots_alone, commitments};
 use paddockyear_tests::boards::samples::files;
 use paddockyear_tests::boards::{honest, inputs, BOTH};
-use paddockyear_tests::edited::protocol::{Form, Receipt, Verdict};
+use paddockyear_tests::edited::protocol::{Form, Receipt, Rule};
 use paddockyear_tests::edited::runoff as edited_runoff;
 use paddockyear_tests::edited::schedule as edited_schedule;
-use paddockyear_tests::edited::wire::Order;
 use paddockyear_tests::edited::{decimals, limits, results, verifier, wire};
 use paddockyear_tests::random::Random;
 use paddockyear_tests::reference::calendar::Date;
@@ -18,6 +17,7 @@ use paddockyear_tests::reference::tablet::receipt;
 use paddockyear_tests::reference::terms::{self, Parameters, MAX_BALLOTS};
 use paddockyear_tests::reference::writer::SidesSource;
 use paddockyear_tests::subjects::product::{calendar, part_three, runoff, window_at};
+use std::cmp::Ordering;
 
 #[test]
 fn slices_of_two_lengths() {
@@ -32,9 +32,9 @@ fn orders_of_commitments() {
     for place in 0..32 {
         let (low, mut high) = ([7; 40], [7; 40]);
         high[8 + place] = 8;
-        assert_eq!(wire::compare32(&low, 8, &high, 8), Order::Less);
-        assert_eq!(wire::compare32(&high, 8, &low, 8), Order::Greater);
-        assert_eq!(wire::compare32(&high, 8, &high, 8), Order::Equal);
+        assert_eq!(wire::compare32(&low, 8, &high, 8), Ordering::Less);
+        assert_eq!(wire::compare32(&high, 8, &low, 8), Ordering::Greater);
+        assert_eq!(wire::compare32(&high, 8, &high, 8), Ordering::Equal);
     }
 }
 
@@ -46,7 +46,7 @@ fn copy_before_another_fault() {
     ballots[1][2] = ballots[0][5];
     let mut record = ballots_alone(terms::Form::Unnumbered, &ballots);
     record[8 + 3 * 197 + 1..8 + 3 * 197 + 5].fill(0);
-    assert_eq!(verifier::judge_plainly(&record), Verdict::Refused(21));
+    assert_eq!(verifier::judge_plainly(&record).map_err(Rule::number), Err(21));
 }
 
 #[test]
@@ -143,7 +143,7 @@ fn first_commands() {
     for (name, width) in [("one-ballot.board", 8), ("numbered-one-ballot.board", 12)] {
         let (_, board) = files().into_iter().find(|(file, _)| file == name).unwrap();
         for end in [width - 1, width] {
-            assert_eq!(verifier::judge_plainly(&board[..end]), Verdict::Refused(1));
+            assert_eq!(verifier::judge_plainly(&board[..end]).map_err(Rule::number), Err(1));
         }
     }
 }
@@ -157,9 +157,9 @@ fn lengths_of_receipts() {
     let printed = receipt(u32::from_be_bytes(command[1..5].try_into().unwrap()), command);
     let longer: Vec<u8> = printed.iter().copied().chain([0]).collect();
     for ask in [results::receipts::check_receipt, results::receipts::look_up] {
-        assert_eq!(ask(&board, &printed), Receipt::AsPrinted);
+        assert_eq!(ask(&board, &printed), Ok(Receipt::AsPrinted));
         for other in [&longer[..], &printed[..31], &[]] {
-            assert_eq!(ask(&board, other), Receipt::Refused(18));
+            assert_eq!(ask(&board, other).map_err(Rule::number), Err(18));
         }
     }
 }
@@ -173,12 +173,12 @@ fn dice() {
     let dice = 8 + 197 + 2 * 196 * compared + 1;
     let second_dice = dice + 34 + 10 * compared + 1;
     assert_eq!((board[dice - 1], board[second_dice - 1]), (4, 6));
-    assert_eq!(verifier::judge_as_drawn(&board), Verdict::Accepted);
-    assert_eq!(verifier::judge_as_drawn(&board[..second_dice + 30]), Verdict::Refused(1));
+    assert_eq!(verifier::judge_as_drawn(&board), Ok(()));
+    assert_eq!(verifier::judge_as_drawn(&board[..second_dice + 30]).map_err(Rule::number), Err(1));
     for place in dice..dice + 30 {
         board[place] = if board[place] == b'1' { b'2' } else { b'1' };
-        assert_eq!(verifier::judge_plainly(&board), Verdict::Accepted);
-        verifier::judge_as_drawn(&board);
+        assert_eq!(verifier::judge_plainly(&board), Ok(()));
+        let _ = verifier::judge_as_drawn(&board);
     }
 }
 
@@ -202,7 +202,7 @@ fn many_ballots_with_marks() {
     assert!(limits::is_permutation(1025, &places));
     let parameters = Parameters::unnumbered(100, 1025, 1);
     let record = honest(&mut Random::new(63), parameters, BOTH).record();
-    assert_eq!(verifier::judge_as_drawn(&record), Verdict::Accepted);
+    assert_eq!(verifier::judge_as_drawn(&record), Ok(()));
 }
 
 /// Refusals and elections of few votes: the suite's long ones take up the work that an edit is tried

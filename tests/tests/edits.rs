@@ -47,10 +47,10 @@ fn add(x: u32) -> u32 {
 }
 ";
 
-/// `wire` as it was when the reports on the controls and its first round were written, and a report
-/// on a crate of modules.
+/// `wire` and its controls as they were when the reports on the controls and its first round were
+/// written, and a report on a crate of modules.
 const WIRE: &str = include_str!("edits/wire.source");
-const CONTROLS: &str = include_str!("edits/controls/wire.edit");
+const CONTROLS: &str = include_str!("edits/wire.controls");
 const CONTROLS_REPORT: &str = include_str!("edits/controls.report");
 const ROUND_REPORT: &str = include_str!("edits/round.report");
 const MODULES_REPORT: &str = include_str!("edits/modules.report");

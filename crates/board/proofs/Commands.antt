@@ -1,7 +1,7 @@
 -- One ballot and one entry of part one: how long it is, and that it is what its writer writes of the six numbers that were followed and of
 -- the part of the keys that it is lent.
-use mathlib.Core.Path.{◌≡◌, ap, ap₂, ◌∙◌}
-use mathlib.Core.List.{List, [], ◌∷◌, ◌++◌}
+use mathlib.Core.Path.{◌≡◌, ap, ap₂}
+use mathlib.Core.List.{List, ◌∷◌, ◌++◌}
 use Prim.Native.Nat.{ℕ, ◌+◌, ◌-◌, ◌*◌, ◌≤◌, ◌<◌}
 use native.Mathlib.Omega.{arith}
 use lib.ListN.{length, take, drop, length-append}
@@ -19,7 +19,6 @@ use Rattle.protocol.specs.Inputs.{Slices, ballot_keys, entry_keys, inputs_of}
 use Rattle.protocol.specs.Servers.{ballot_number, entry_number, ballot_opening, entry_opening, posted_board, first_part}
 use Rattle.protocol.proofs.Widths.{length_first, length_ballot, length_entry}
 use Rattle.protocol.proofs.Honesty.{length_commitment}
-use Rattle.mixing.specs.Followed.{trail}
 use Rattle.mixing.specs.Passed.{Passed}
 use Rattle.mixing.proofs.Following.{all_few}
 use Rattle.mixing.proofs.Agreement as agreement
@@ -76,23 +75,23 @@ module _ (s : Slices) where
 
   -- what is written of ballot j
   pub ballot_is : (j : ℕ) (six : List ℕ)
-      → ((q : ℕ) → q < 6 → (item six q ≡ ballot_number (inputs_of (trail s.parameters s.votes s.numbers [])) j q) × (item six q < s.parameters.modulus))
+      → ((q : ℕ) → q < 6 → (item six q ≡ ballot_number (inputs_of s) j q) × (item six q < s.parameters.modulus))
       → ballot_command (item s.ids j) (λ q. commitment s.parameters (InBallot (item s.ids j) q) (opening_of six (take (192 * j + 192 - 192 * j) (drop (192 * j) s.keys)) q))
       ≡ ballot_of j
   unfolding posted_board ballot_opening inputs_of ballot_keys
   ballot_is j six h =
-      ballot_same _ _ _ (λ q lq. opening_same _ s.parameters six s.keys (192 * j) q (ballot_number (inputs_of s) j q) ((h q lq).0 ∙ agreement.ballot_same s 0 0 j q))
+      ballot_same _ _ _ (λ q lq. opening_same _ s.parameters six s.keys (192 * j) q (ballot_number (inputs_of s) j q) (h q lq).0)
 
   -- .. and of place i of list l
   -- `a` being where its keys start
   pub entry_is : (l i a : ℕ) (six : List ℕ) → a ≡ entry_keys_at l i
-      → ((q : ℕ) → q < 6 → (item six q ≡ entry_number (inputs_of (trail s.parameters s.votes s.numbers s.permutations)) l i q) × (item six q < s.parameters.modulus))
+      → ((q : ℕ) → q < 6 → (item six q ≡ entry_number (inputs_of s) l i q) × (item six q < s.parameters.modulus))
       → entry_command l i (λ q. commitment s.parameters (InEntry l i q) (opening_of six (take (a + 192 - a) (drop a s.keys)) q))
       ≡ entry_of l i
   unfolding posted_board entry_opening inputs_of entry_keys
   entry_is l i a six e h =
       rw e
-      (entry_same l i _ _ (λ q lq. opening_same _ s.parameters six s.keys (entry_keys_at l i) q (entry_number (inputs_of s) l i q) ((h q lq).0 ∙ agreement.entry_same s l i q)))
+      (entry_same l i _ _ (λ q lq. opening_same _ s.parameters six s.keys (entry_keys_at l i) q (entry_number (inputs_of s) l i q) (h q lq).0))
 
   -- the parameters, the ballots and the lists, one behind the other
   pub part_written : {out first second third : List ℕ} {a b r : ℕ} → length out ≡ part_one_length s.parameters → Went out 0 (first_command s.parameters) first a

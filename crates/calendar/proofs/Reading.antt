@@ -7,7 +7,7 @@ use Rattle.laws.specs.Tests.{equal, ◌and◌, ◌or◌, every, is_at_most, and_
 use Rattle.schedule.specs.declared.Date.{Date}
 use Rattle.schedule.specs.Dates.{number_of}
 use Rattle.schedule.specs.Page.{padded, date_text}
-use Rattle.calendar.specs.declared.Argument.TheVariants.{Number}
+use Rattle.std.specs.Prelude.{Some}
 use Rattle.calendar.specs.Arguments.{is_digit, placed, formed, two_at, number_in, said_by}
 
 digit_passes : (x : ℕ) → is_digit (48 + x % 10) ≡ true
@@ -32,6 +32,6 @@ module _ (t : Date) where
   unfolding number_in two_at date_text padded number_of
   text_number y m d = simp back (omega (arith, four_digits t.year y, two_digits t.month m, two_digits t.day d))
 
-  pub read_back : t.year < 10000 → t.month < 100 → t.day < 100 → said_by (date_text t) ≡ Number (number_of t)
+  pub read_back : t.year < 10000 → t.month < 100 → t.day < 100 → said_by (date_text t) ≡ Some (number_of t)
   unfolding said_by
-  read_back y m d = rw text_formed (ap Number (text_number y m d))
+  read_back y m d = rw text_formed (ap Some (text_number y m d))

@@ -5,10 +5,11 @@ ghost use Rattle.std.specs.Prelude.{true, OnOk, ◌≡◌, ◌-◌, ◌≤◌, �
 ghost use Rattle.std.specs.Io.KnownBytes.{Appends};
 ghost use Rattle.protocol.specs.Terms.{item};
 ghost use Rattle.protocol.specs.Results.{in_front};
-ghost use Rattle.schedule.specs.Dates.{date_in};
+ghost use Rattle.schedule.specs.Dates as dates;
 ghost use Rattle.schedule.specs.Page.{schedule_page};
 ghost use Rattle.calendar.specs.Arguments.{is_digit, placed, formed, two_at, said_by, Digits};
 
+use schedule::dates::date_in;
 use schedule::page::LONGEST_PAGE;
 use std::env::FillError;
 use std::io;
@@ -21,35 +22,15 @@ const MOST_DATES: usize = 73051;
 
 // ---- an argument
 
-// A date by its number, year × 10,000 + month × 100 + day; or anything else.
-#[derive(Clone, Copy)]
-pub enum Argument {
-    Number(u32),
-    Otherwise,
-}
-
-// Whether a character is a decimal digit.
-fn is_digit(c: u8) -> bool
-    ensures { result ≡ is_digit c }
+// Whether a character is one that a date has at place i.
+fn is_placed(i: usize, c: u8) -> bool
+    ensures { result ≡ placed i c }
 {
-    if c < 48 {
-        return false;
+    if i == 4 || i == 7 {
+        c == b'-'
+    } else {
+        c.is_ascii_digit()
     }
-    c <= 57
-}
-
-// Whether the character at a place is one that a date has there.
-fn is_placed(argument: &[u8], i: usize) -> bool
-    requires { i < length argument.now }
-    ensures { result ≡ placed argument.now i }
-{
-    if i == 4 {
-        return argument[i] == 45;
-    }
-    if i == 7 {
-        return argument[i] == 45;
-    }
-    is_digit(argument[i])
 }
 
 // Whether an argument has the form of a date.
@@ -59,12 +40,10 @@ fn is_formed(argument: &[u8]) -> bool
     if argument.len() != 10 {
         return false;
     }
-    let mut i: usize = 0;
-    while i < 10 {
-        if !is_placed(argument, i) {
+    for (i, c) in argument.iter().enumerate() {
+        if !is_placed(i, *c) {
             return false;
         }
-        i += 1;
     }
     true
 }
@@ -74,7 +53,7 @@ fn digit(c: u8) -> u32
     requires { is_digit c ≡ true }
     ensures { (result ≡ c - 48) × (result ≤ 9) }
 {
-    (c - 48) as u32
+    u32::from(c - b'0')
 }
 
 // The number of two digits from a place on.
@@ -85,16 +64,16 @@ fn two_at(argument: &[u8], i: usize) -> u32
     digit(argument[i]) * 10 + digit(argument[i + 1])
 }
 
-// What an argument says.
-pub fn said(argument: &[u8]) -> Argument
+// What an argument says: a date by its number, year × 10,000 + month × 100 + day; or nothing.
+pub fn said(argument: &[u8]) -> Option<u32>
     ensures { result ≡ said_by argument.now }
 {
     if !is_formed(argument) {
-        return Argument::Otherwise;
+        return None;
     }
     let year = two_at(argument, 0) * 100 + two_at(argument, 2);
     let rest = two_at(argument, 5) * 100 + two_at(argument, 8);
-    Argument::Number(year * 10000 + rest)
+    Some(year * 10000 + rest)
 }
 
 // ---- the page
@@ -102,75 +81,52 @@ pub fn said(argument: &[u8]) -> Argument
 // Writes the page for the election day and the holidays behind it, by their numbers, and answers its length. What lies behind it is
 // unchanged. With no number it is the page of day 0 of month 0, which does not exist.
 pub fn put_page(numbers: &[u32], out: &mut [u8; LONGEST_PAGE]) -> usize
-    ensures output { let page = schedule_page (date_in (item numbers.now 0)) (drop 1 numbers.now) in
+    ensures output { let page = schedule_page (dates.date_in (item numbers.now 0)) (drop 1 numbers.now) in
         out.new ≡ in_front page out.old }
-    ensures answer { result ≡ length (schedule_page (date_in (item numbers.now 0)) (drop 1 numbers.now)) }
+    ensures answer { result ≡ length (schedule_page (dates.date_in (item numbers.now 0)) (drop 1 numbers.now)) }
 {
-    if numbers.len() == 0 {
-        return schedule::page::put_page(schedule::dates::date_in(0), numbers, out);
+    match numbers.split_first() {
+        Some((election, holidays)) => schedule::page::put_page(date_in(*election), holidays, out),
+        None => schedule::page::put_page(date_in(0), numbers, out),
     }
-    schedule::page::put_page(schedule::dates::date_in(numbers[0]), &numbers[1..], out)
 }
 
 // ---- what is read and written
 
-// Room for the numbers. The contract gives only the length, which lending the array as a slice needs.
-fn no_numbers() -> [u32; MOST_DATES]
-    ensures { 73051 ≡ length result }
-{
-    [0; MOST_DATES]
-}
-
-// Room for a page.
-fn blank_page() -> [u8; LONGEST_PAGE]
-    ensures { 216 ≡ length result }
-{
-    [0; LONGEST_PAGE]
-}
-
 // What argument i says, where there is one. One of more than ten characters says nothing.
-fn argument_at(rt: &impl Env, i: usize) -> Option<Argument> {
+fn argument_at(rt: &impl Env, i: usize) -> Option<Option<u32>> {
     let mut text = [0; 10];
     match rt.arg(i, &mut text) {
         Ok(n) => Some(said(&text[..n])),
-        Err(FillError::TooLong) => Some(Argument::Otherwise),
+        Err(FillError::TooLong) => Some(None),
         Err(FillError::NotPresent) => None,
     }
 }
 
-// Puts a number behind the first n, where there is room, and answers how many there are.
-fn put_number(numbers: &mut [u32], n: usize, number: u32) -> usize
-    requires { n ≤ length numbers.old }
-    ensures { (result ≤ length numbers.new) × (length numbers.new ≡ length numbers.old) }
-{
-    if n < numbers.len() {
-        numbers[n] = number;
-        return n + 1;
-    }
-    n
-}
-
-// Reads the arguments, and answers how many numbers there are: none where an argument is no date.
-fn read_numbers(rt: &impl Env, numbers: &mut [u32]) -> usize
-    ensures { (result ≤ length numbers.new) × (length numbers.new ≡ length numbers.old) }
-{
-    let mut n: usize = 0;
+// Reads the arguments into the room lent, and answers what is filled of it: nothing where an argument is no date.
+fn read_numbers<'a>(rt: &impl Env, room: &'a mut [u32]) -> &'a [u32] {
+    let mut n = 0;
     for i in 1..usize::MAX {
         match argument_at(rt, i) {
-            Some(Argument::Number(number)) => n = put_number(numbers, n, number),
-            Some(Argument::Otherwise) => return 0,
-            None => return n,
+            Some(Some(number)) => {
+                if n < room.len() {
+                    room[n] = number;
+                    n += 1;
+                }
+            }
+            Some(None) => return &[],
+            None => break,
         }
     }
-    n
+    &room[..n]
 }
 
 // Prints the page of what was read.
 fn print_page<W: Write>(out: &mut W, numbers: &[u32]) -> io::Result<()>
-    ensures { let page = schedule_page (date_in (item numbers.now 0)) (drop 1 numbers.now) in
+    ensures { let page = schedule_page (dates.date_in (item numbers.now 0)) (drop 1 numbers.now) in
         OnOk result (Appends (W.contents out.old) (W.contents out.new) page) }
 {
-    let mut page = blank_page();
+    let mut page = [0; LONGEST_PAGE];
     let n = put_page(numbers, &mut page);
     out.write_all(&page[..n])
 }
@@ -180,10 +136,10 @@ fn usage(rt: &impl Eprint) -> io::Result<()> {
 }
 
 fn main(rt: HostRuntime) -> io::Result<()> {
-    let mut numbers = no_numbers();
-    let n = read_numbers(&rt, &mut numbers);
-    if n == 0 {
+    let mut room = [0; MOST_DATES];
+    let numbers = read_numbers(&rt, &mut room);
+    if numbers.is_empty() {
         return usage(&rt);
     }
-    print_page(&mut rt.stdout(), &numbers[..n])
+    print_page(&mut rt.stdout(), numbers)
 }

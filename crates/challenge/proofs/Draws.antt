@@ -1,6 +1,5 @@
 -- Laws of the draw of a mask, a list at a time.
 use mathlib.Core.Path.{◌≡◌, sym, ap, ap₂, ◌∙◌}
-use mathlib.Core.Bool.{Bool}
 use mathlib.Core.List.{List, [], ◌∷◌, ◌++◌}
 use Prim.Native.Nat.{ℕ, zero, suc, ◌+◌, ◌-◌, ◌*◌, ◌%◌, ◌^◌, ◌≤◌, ◌<◌}
 use native.Mathlib.Nat.{pow-suc, mul-le-mul_right, lt_of_lt_of_le}
@@ -26,8 +25,8 @@ pub list_hash_lem : (q : List ℕ) (i : ℕ) {h : ℕ} {hash : List ℕ} → h �
 unfolding list_hash
 list_hash_lem q i e d = e ∙ ap (λ (l : List ℕ). number l 0 8) d
 
-pub chosen : {h x : ℕ} (k r : ℕ) (b : Bool) → h ≡ x → below (h % k) r ≡ b → one_if b ≡ one_if (below (x % k) r)
-chosen k r b e t = sym (ap (λ (x : ℕ). one_if (below (x % k) r)) (sym e) ∙ ap one_if t)
+pub chosen : {h x : ℕ} (k r : ℕ) → h ≡ x → below (h % k) r ≡ below (x % k) r
+chosen k r e = ap (λ (x : ℕ). below (x % k) r) e
 
 -- ---- the mask
 
@@ -71,3 +70,21 @@ pub draw_none : (h : ℕ → ℕ) (i k r mask : ℕ) → k ≡ 0 → mask + draw
 unfolding draw_from
 draw_none h i zero r mask e = omega arith
 draw_none h i (suc k) r mask e = absurd (omega arith)
+
+-- what is drawn before list i: the mask so far, with what is drawn of the lists behind, is the whole
+pub record Drawing (h : ℕ → ℕ) (lists compared all i left mask : ℕ) : Type 0 where
+  pub few : left ≤ compared
+  pub small : mask < 2 ^ i
+  pub rest : mask + draw_from h i (lists - i) left * 2 ^ i ≡ all
+
+pub next_list : {h : ℕ → ℕ} {lists compared all i left mask left' mask' : ℕ} (c : ℕ) → Drawing h lists compared all i left mask → i < lists → c < 2
+    → c ≡ one_if (below (h i % (lists - i)) left) → mask' ≡ mask + c * 2 ^ i → left' ≡ left - c → Drawing h lists compared all (i + 1) left' mask'
+next_list {h} {lists} {compared} {all} {i} {left} {mask} {left'} {mask'} c d l small e m r =
+    let k : lists - (i + 1) ≡ lists - i - 1 = omega arith in
+    record {
+      few = omega (arith, d.few);
+      small = omega (arith, mask_more mask c i d.small small);
+      rest = ap₂ (λ (x y : ℕ). x + draw_from h (i + 1) (lists - (i + 1)) y * 2 ^ (i + 1)) m r
+          ∙ ap (λ (n : ℕ). mask + c * 2 ^ i + draw_from h (i + 1) n (left - c) * 2 ^ (i + 1)) k
+          ∙ sym (draw_step h i (lists - i) left c mask (omega arith) e) ∙ d.rest;
+    }

@@ -2,7 +2,6 @@
 #![tactic(auto)]
 
 ghost use Rattle.std.specs.Prelude.{◌≡◌, ◌++◌, ◌+◌, ◌*◌, ◌%◌, ◌≤◌, ◌<◌, length};
-ghost use Rattle.laws.specs.Sums.{one_if};
 ghost use Rattle.laws.specs.Tests.{below};
 ghost use Rattle.laws.specs.Writing.{Went};
 ghost use Rattle.protocol.specs.Drawing.{hex_digit, hex_digits, challenge, draw_hash, list_hash, drawn_mask, drawn_side};
@@ -13,10 +12,7 @@ fn hex_digit(v: u8) -> u8
     requires { v < 16 }
     ensures { result ≡ hex_digit v }
 {
-    if v < 10 {
-        return 48 + v;
-    }
-    87 + v
+    if v < 10 { 48 + v } else { 87 + v }
 }
 
 // Writes the hexadecimal digits of s from a place on, and answers the next place.
@@ -25,13 +21,10 @@ fn put_hex(out: &mut [u8], at: usize, s: &[u8]) -> usize
     ensures { Went out.old at (hex_digits s.now) out.new result }
 {
     let mut next = at;
-    let mut i: usize = 0;
-    while i < s.len() {
-        let b = s[i];
-        out[next] = hex_digit(b / 16);
-        out[next + 1] = hex_digit(b % 16);
+    for b in s {
+        out[next] = hex_digit(*b / 16);
+        out[next + 1] = hex_digit(*b % 16);
         next += 2;
-        i += 1;
     }
     next
 }
@@ -69,18 +62,15 @@ fn draw_hash(i: u32, q: &[u8], last: u8, out: &mut [u8; 28])
     sha3::hash_parts(144, &number[..n], q, &end, out);
 }
 
-// 1 where list i is chosen, the first of so many lists of which some are left to choose, and else 0.
-fn list_chosen(q: &[u8], i: u32, lists: u32, left: u32) -> u32
+// Whether list i is chosen, the first of so many lists of which some are left to choose.
+fn list_chosen(q: &[u8], i: u32, lists: u32, left: u32) -> bool
     requires { 0 < lists }
-    ensures { (result ≡ one_if (below (list_hash q.now i % lists) left)) × ((result < 2) × (result ≤ left)) }
+    ensures { result ≡ below (list_hash q.now i % lists) left }
 {
     let mut hash = [0u8; 28];
     draw_hash(i, q, b'2', &mut hash);
     let h = wire::read8(&hash, 0);
-    if h % (lists as u64) < left as u64 {
-        return 1;
-    }
-    0
+    h % (lists as u64) < left as u64
 }
 
 // The mask drawn from the first Q: so many lists are compared, of twice as many.
@@ -91,12 +81,11 @@ pub fn drawn_mask(q: &[u8], compared: usize) -> u32
     let mut left = compared as u32;
     let lists = 2 * left;
     let mut mask: u32 = 0;
-    let mut i: u32 = 0;
-    while i < lists {
-        let chosen = list_chosen(q, i, lists - i, left);
-        mask += chosen << i;
-        left -= chosen;
-        i += 1;
+    for i in 0..lists {
+        if list_chosen(q, i, lists - i, left) {
+            mask += 1 << i;
+            left -= 1;
+        }
     }
     mask
 }

@@ -28,13 +28,11 @@ fn put_six_commitments(
     ensures { Went out.old at (chunks (λ q. commitment p (in_slot place q) (opening_of six keys.now q)) 6) out.new result }
 {
     let mut next = at;
-    let mut q: usize = 0;
-    while q < 6 {
+    for q in 0..6 {
         let from = 32 * q;
         let to = from + 32;
         let here = commitment::in_slot(place, q);
         next = commitment::put_commitment(out, next, p, here, &keys[from..to], six[q]);
-        q += 1;
     }
     next
 }
@@ -53,13 +51,11 @@ fn put_openings(
     ensures { Went out.old at (chunks (λ k. opening_of six keys.now (step * k + from)) count) out.new result }
 {
     let mut next = at;
-    let mut k: usize = 0;
-    while k < count {
+    for k in 0..count {
         let q = step * k + from;
         let start = 32 * q;
         let end = start + 32;
         next = commitment::put_opening(out, next, &keys[start..end], six[q]);
-        k += 1;
     }
     next
 }

@@ -12,7 +12,6 @@ use Rattle.laws.specs.Modular.{minus}
 use Rattle.laws.proofs.Permutations.{whence_of}
 use Rattle.laws.specs.Chunks.{chunks, start, chunks_length, chunks_even, start_set}
 use Rattle.laws.specs.Writing.{Went, go_on, whole, room}
-use Rattle.protocol.specs.Terms.{item}
 use Rattle.protocol.specs.Layout.{lists, part_two_length}
 use Rattle.protocol.specs.Record.{first_dice_command, link_command, part_two}
 use Rattle.protocol.specs.Rules.{right_shape}
@@ -20,11 +19,9 @@ use Rattle.protocol.specs.Inputs.{Slices, inputs_of}
 use Rattle.protocol.specs.Servers.{sum_of_halves, link_position, link_shift, posted_comparison, second_part}
 use Rattle.protocol.proofs.Widths.{length_first_dice, length_link}
 use Rattle.protocol.proofs.Unrefused.{shape_iff}
-use Rattle.mixing.specs.Followed.{trail}
 use Rattle.mixing.specs.Passed.{Passed}
 use Rattle.mixing.proofs.Following.{source_perm}
 use Rattle.mixing.proofs.Agreement as agreement
-use Rattle.comparison.specs.Links.{PlacesOf}
 
 module _ (s : Slices) where
   -- the link of ballot j to list l, and those of all ballots
@@ -38,19 +35,15 @@ module _ (s : Slices) where
   pub position_low : Passed s → (l j : ℕ) → l < lists s.parameters → j < s.parameters.ballots → link_position (inputs_of s) l j < s.parameters.ballots
   unfolding link_position inputs_of
   position_low t l j ll lj =
-      rw (← agreement.position_same s l j) (whence_of _ _ (source_perm (agreement.places s t.tests) ll) j lj).1
-
-  -- places that were worked out
-  pub places_are : (l : ℕ) (places : List ℕ) → length places ≡ s.parameters.ballots
-      → ((j : ℕ) → j < s.parameters.ballots → item places j ≡ link_position (inputs_of (trail s.parameters [] [] s.permutations)) l j) → PlacesOf s l places
-  places_are l places long h = record { long = long; are = λ j lj. h j lj ∙ agreement.position_same s l j }
+      (whence_of _ _ (source_perm (agreement.places s t.tests) ll) j lj).1
 
   -- what is written of the place that was worked out, and of its shift
   pub link_is : (l j i x : ℕ) → i ≡ link_position (inputs_of s) l j
-      → x ≡ minus s.parameters.modulus (sum_of_halves (inputs_of (trail s.parameters [] s.numbers [])) ((inputs_of (trail s.parameters [] s.numbers [])).first_half j))
-      (sum_of_halves (inputs_of (trail s.parameters [] s.numbers [])) ((inputs_of (trail s.parameters [] s.numbers [])).entry_first_half l i))
+      → x ≡ minus s.parameters.modulus (sum_of_halves (inputs_of s) ((inputs_of s).first_half j))
+      (sum_of_halves (inputs_of s) ((inputs_of s).entry_first_half l i))
       → link_command l j i x ≡ link_of l j
-  link_is l j i x e h = ap₂ (link_command l j) e (h ∙ agreement.shift_same s l i j e)
+  unfolding link_shift inputs_of
+  link_is l j i x e h = ap₂ (link_command l j) e (rw e at h)
 
   module _ (mask : ℕ) where
     -- those of list l, where it is compared

@@ -1,3 +1,4 @@
+pub mod Faults
+pub mod Keys
 pub mod Places
 pub mod Values
-pub mod Faults

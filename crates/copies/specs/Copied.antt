@@ -1,6 +1,6 @@
 -- Rule 21, by document 02, item 5: the ballots that have a commitment of an earlier one.
 use Rattle.std.specs.Prelude.{List, ℕ}
-use Rattle.laws.specs.declared.Found.{Found}
+use Rattle.laws.specs.Faults.{Found}
 use Rattle.laws.specs.Faults.{kept, rule, located, first}
 use Rattle.protocol.specs.declared.Parameters.{Parameters}
 use Rattle.protocol.specs.Layout.{at_ballot}

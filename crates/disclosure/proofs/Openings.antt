@@ -1,6 +1,6 @@
 -- Openings: as code makes them of the part of the keys that it lends, and how long they are.
-use mathlib.Core.Path.{◌≡◌, ap, ap₂, ◌∙◌}
-use mathlib.Core.List.{List, [], ◌∷◌, ◌++◌}
+use mathlib.Core.Path.{◌≡◌, ap, ap₂}
+use mathlib.Core.List.{List, ◌∷◌, ◌++◌}
 use Prim.Native.Nat.{ℕ, ◌+◌, ◌-◌, ◌*◌, ◌≤◌, ◌<◌}
 use native.Mathlib.Omega.{arith}
 use lib.ListN.{length, take, drop}
@@ -14,9 +14,14 @@ use Rattle.protocol.specs.Servers.{ballot_number, entry_number, ballot_opening, 
 use Rattle.protocol.proofs.Honesty.{length_opening}
 use Rattle.protocol.proofs.Widths.{length_ballot_half, length_list_half, length_full}
 use Rattle.commands.specs.Openings.{opening_of}
-use Rattle.mixing.specs.Followed.{trail}
 use Rattle.mixing.specs.Passed.{Passed}
-use Rattle.mixing.proofs.Agreement.{ballot_same, entry_same}
+
+-- keys and votes that a function reads of its inputs are those that their value has
+pub keys_same : {a b : Slices} → a ≡ b → a.keys ≡ b.keys
+keys_same e = ap (λ (s : Slices). s.keys) e
+
+pub votes_same : {a b : Slices} → a ≡ b → a.votes ≡ b.votes
+votes_same e = ap (λ (s : Slices). s.votes) e
 
 -- where the keys of ballot j start
 abbrev pub ballot_keys_at : ℕ → ℕ
@@ -43,46 +48,50 @@ module _ (s : Slices) (passed : Passed s) where
 
   module _ (six : List ℕ) where
     ballot_opening_is : (j q : ℕ)
-        → ((q : ℕ) → q < 6 → (item six q ≡ ballot_number (inputs_of (trail s.parameters s.votes s.numbers [])) j q) × (item six q < s.parameters.modulus)) → q < 6
+        → ((q : ℕ) → q < 6 → (item six q ≡ ballot_number (inputs_of s) j q) × (item six q < s.parameters.modulus)) → q < 6
         → opening_of six (take (ballot_keys_at j + 192 - ballot_keys_at j) (drop (ballot_keys_at j) s.keys)) q ≡ ballot_opening (inputs_of s) j q
     unfolding opening_of ballot_opening inputs_of ballot_keys
     ballot_opening_is j q h lq =
-        ap₂ opening (ap (λ (own : List ℕ). piece own (32 * q) 32) (part_is s.keys (ballot_keys_at j) 192)) ((h q lq).0 ∙ ballot_same s 0 0 j q)
+        ap₂ opening (ap (λ (own : List ℕ). piece own (32 * q) 32) (part_is s.keys (ballot_keys_at j) 192)) (h q lq).0
 
     -- `a` being where its keys start
     entry_opening_is : (l i a q : ℕ) → a ≡ entry_keys_at s.parameters.ballots l i
-        → item six q ≡ entry_number (inputs_of (trail s.parameters s.votes s.numbers s.permutations)) l i q
+        → item six q ≡ entry_number (inputs_of s) l i q
         → opening_of six (take (a + 192 - a) (drop a s.keys)) q
         ≡ entry_opening (inputs_of s) l i q
     unfolding opening_of entry_opening inputs_of entry_keys
     entry_opening_is l i a q e h =
         rw e
-        (ap₂ opening (ap (λ (own : List ℕ). piece own (32 * q) 32) (part_is s.keys (entry_keys_at s.parameters.ballots l i) 192)) (h ∙ entry_same s l i q))
+        (ap₂ opening (ap (λ (own : List ℕ). piece own (32 * q) 32) (part_is s.keys (entry_keys_at s.parameters.ballots l i) 192)) h)
 
-    pub ballot_half_is : (j side : ℕ) → side ≤ 1
-        → ((q : ℕ) → q < 6 → (item six q ≡ ballot_number (inputs_of (trail s.parameters s.votes s.numbers [])) j q) × (item six q < s.parameters.modulus))
-        → ballot_half_command j side (λ k. opening_of six (take (ballot_keys_at j + 192 - ballot_keys_at j) (drop (ballot_keys_at j) s.keys)) (2 * k + side))
+    -- the keys being those that a function reads
+    pub ballot_half_is : {keys : List ℕ} (j side : ℕ) → keys ≡ s.keys → side ≤ 1
+        → ((q : ℕ) → q < 6 → (item six q ≡ ballot_number (inputs_of s) j q) × (item six q < s.parameters.modulus))
+        → ballot_half_command j side (λ k. opening_of six (take (ballot_keys_at j + 192 - ballot_keys_at j) (drop (ballot_keys_at j) keys)) (2 * k + side))
         ≡ ballot_half_command j side (λ k. ballot_opening (inputs_of s) j (2 * k + side))
     unfolding ballot_half_command
-    ballot_half_is j side ls h =
-        ap (λ (x : List ℕ). ((7 ∷ bytes 2 j) ++ bytes 1 side) ++ x) (chunks_same _ _ 3 (λ k lk. ballot_opening_is j (2 * k + side) h (omega arith)))
+    ballot_half_is j side own ls h =
+        rw own
+        (ap (λ (x : List ℕ). ((7 ∷ bytes 2 j) ++ bytes 1 side) ++ x) (chunks_same _ _ 3 (λ k lk. ballot_opening_is j (2 * k + side) h (omega arith))))
 
-    pub list_half_is : (l i a side : ℕ) → a ≡ entry_keys_at s.parameters.ballots l i
+    pub list_half_is : {keys : List ℕ} (l i a side : ℕ) → keys ≡ s.keys → a ≡ entry_keys_at s.parameters.ballots l i
         → ((k : ℕ) → k < 3
-        → item six (2 * k + side) ≡ entry_number (inputs_of (trail s.parameters s.votes s.numbers s.permutations)) l i (2 * k + side))
-        → list_half_command l i (λ k. opening_of six (take (a + 192 - a) (drop a s.keys)) (2 * k + side))
+        → item six (2 * k + side) ≡ entry_number (inputs_of s) l i (2 * k + side))
+        → list_half_command l i (λ k. opening_of six (take (a + 192 - a) (drop a keys)) (2 * k + side))
         ≡ list_half_command l i (λ k. entry_opening (inputs_of s) l i (2 * k + side))
     unfolding list_half_command
-    list_half_is l i a side e h =
-        ap (λ (x : List ℕ). ((8 ∷ bytes 1 l) ++ bytes 2 i) ++ x) (chunks_same _ _ 3 (λ k lk. entry_opening_is l i a (2 * k + side) e (h k lk)))
+    list_half_is l i a side own e h =
+        rw own
+        (ap (λ (x : List ℕ). ((8 ∷ bytes 1 l) ++ bytes 2 i) ++ x) (chunks_same _ _ 3 (λ k lk. entry_opening_is l i a (2 * k + side) e (h k lk))))
 
-    pub full_is : (l i a : ℕ) → a ≡ entry_keys_at s.parameters.ballots l i
-        → ((q : ℕ) → q < 6 → (item six q ≡ entry_number (inputs_of (trail s.parameters s.votes s.numbers s.permutations)) l i q) × (item six q < s.parameters.modulus))
-        → full_command l i (opening_of six (take (a + 192 - a) (drop a s.keys)))
+    pub full_is : {keys : List ℕ} (l i a : ℕ) → keys ≡ s.keys → a ≡ entry_keys_at s.parameters.ballots l i
+        → ((q : ℕ) → q < 6 → (item six q ≡ entry_number (inputs_of s) l i q) × (item six q < s.parameters.modulus))
+        → full_command l i (opening_of six (take (a + 192 - a) (drop a keys)))
         ≡ full_command l i (entry_opening (inputs_of s) l i)
     unfolding full_command
-    full_is l i a e h =
-        ap (λ (x : List ℕ). ((10 ∷ bytes 1 l) ++ bytes 2 i) ++ x) (chunks_same _ _ 6 (λ q lq. entry_opening_is l i a q e (h q lq).0))
+    full_is l i a own e h =
+        rw own
+        (ap (λ (x : List ℕ). ((10 ∷ bytes 1 l) ++ bytes 2 i) ++ x) (chunks_same _ _ 6 (λ q lq. entry_opening_is l i a q e (h q lq).0)))
 
   -- ---- how long they are
 

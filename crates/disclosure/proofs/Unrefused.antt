@@ -1,4 +1,4 @@
--- What the entries may write once their tests have answered 0.
+-- What the entries may write once their tests have refused nothing.
 use mathlib.Core.Path.{◌≡◌, sym, ap, ◌∙◌}
 use mathlib.Core.List.{List}
 use Prim.Native.Nat.{ℕ}
@@ -12,11 +12,11 @@ use Rattle.protocol.proofs.Drawing.{length_drawn, drawn_sides_lem}
 use Rattle.disclosure.specs.Disclosed.{Drawable, Writable}
 
 -- the sides given
-pub sides_given : (s : Slices) (dice : List ℕ) (mask : ℕ) (sides : List ℕ) (out_long : ℕ) {k : ℕ} → k ≡ part_three_refusal s dice mask sides out_long → k ≡ 0
+pub sides_given : (s : Slices) (dice : List ℕ) (mask : ℕ) (sides : List ℕ) (out_long : ℕ) → 0 ≡ part_three_refusal s dice mask sides out_long
     → Writable s dice mask sides out_long
 unfolding part_three_refusal
-sides_given s dice mask sides out_long e z =
-    let u = unrefused s _ _ _ _ (sym e ∙ z) in
+sides_given s dice mask sides out_long e =
+    let u = unrefused s _ _ _ _ (sym e) in
     let long = simp rules at u.lengths_due in
     record {
       passed = record { lengths = _; fair = _; shape = _; binary = _; tests = u };
@@ -28,11 +28,11 @@ sides_given s dice mask sides out_long e z =
     }
 
 -- the sides to be drawn
-pub sides_drawn : (s : Slices) (dice : List ℕ) (mask one_long two_long out_long : ℕ) {k : ℕ} → k ≡ part_three_drawn_refusal s dice mask one_long two_long out_long → k ≡ 0
+pub sides_drawn : (s : Slices) (dice : List ℕ) (mask one_long two_long out_long : ℕ) → 0 ≡ part_three_drawn_refusal s dice mask one_long two_long out_long
     → Drawable s dice mask out_long
 unfolding part_three_drawn_refusal
-sides_drawn s dice mask one_long two_long out_long e z =
-    let u = unrefused s _ _ _ _ (sym e ∙ z) in
+sides_drawn s dice mask one_long two_long out_long e =
+    let u = unrefused s _ _ _ _ (sym e) in
     let long = simp rules at u.lengths_due in
     record {
       passed = record { lengths = _; fair = _; shape = _; binary = _; tests = u };

@@ -8,45 +8,41 @@ ghost use Rattle.protocol.specs.Terms.{item};
 ghost use Rattle.protocol.specs.Layout.{lists};
 ghost use Rattle.protocol.specs.Record as said;
 ghost use Rattle.protocol.specs.Record.{list_half_command};
-ghost use Rattle.protocol.specs.Inputs.{given, inputs_of};
+ghost use Rattle.protocol.specs.Inputs.{inputs_of};
 ghost use Rattle.protocol.specs.Servers.{link_position, entry_opening, posted_disclosure};
 ghost use Rattle.disclosure.specs.Disclosed.{Shaped, Placed, Sided};
 
 use crate::placing;
-use protocol::{KEYS_WIDTH, MOST_BALLOTS, Parameters};
+use protocol::{Inputs, KEYS_WIDTH, MOST_BALLOTS};
 
 // Command 08 of the entry that list l links to ballot j, where the list is compared.
 fn put_if_compared(
     out: &mut [u8],
     at: usize,
-    p: Parameters,
-    ids: &[u32],
-    votes: &[u32],
-    numbers: &[u32],
-    permutations: &[u16],
-    keys: &[u8],
+    s: &Inputs,
     mask: u32,
     places: &[u16],
     l: usize,
     j: usize,
     side: u32,
 ) -> usize
-    requires { let s = given p ids.now votes.now numbers.now permutations.now keys.now in
-        Shaped s mask × (Placed s mask (lists p) places.now
-        × ((l < lists p) × ((j < p.ballots) × ((side ≤ 1) × (at + bit mask l * 112 ≤ length out.old))))) }
-    ensures { let s = inputs_of (given p ids.now votes.now numbers.now permutations.now keys.now) in
-        let i = link_position s l j in
-        let half = list_half_command l i (λ k. entry_opening s l i (2 * k + side)) in
+    requires { Shaped s.now mask × (Placed s.now mask (lists s.now.parameters) places.now
+        × ((l < lists s.now.parameters) × ((j < s.now.parameters.ballots)
+        × ((side ≤ 1) × (at + bit mask l * 112 ≤ length out.old))))) }
+    ensures { let t = inputs_of s.now in
+        let i = link_position t l j in
+        let half = list_half_command l i (λ k. entry_opening t l i (2 * k + side)) in
         Went out.old at (choose (bit mask l) [] half) out.new result }
 {
     if (mask >> (l as u32)) % 2 == 0 {
         return at;
     }
-    let n = p.ballots;
-    let i = places[layout::rank(mask, l) * n + j] as usize;
+    let p = s.parameters;
+    let keys = s.keys;
+    let i = places[layout::rank(mask, l) * p.ballots + j] as usize;
     let from = mixing::keys_at(p, l, i);
     let to = from + KEYS_WIDTH;
-    let six = mixing::entry_side(p, votes, numbers, permutations, l, i, side);
+    let six = mixing::entry_side(s, l, i, side);
     commands::put_list_half(out, at, l as u32, i as u32, side, six, &keys[from..to])
 }
 
@@ -54,45 +50,24 @@ fn put_if_compared(
 fn put_linked(
     out: &mut [u8],
     at: usize,
-    p: Parameters,
-    ids: &[u32],
-    votes: &[u32],
-    numbers: &[u32],
-    permutations: &[u16],
-    keys: &[u8],
+    s: &Inputs,
     mask: u32,
     places: &[u16],
     j: usize,
     side: u32,
 ) -> usize
-    requires { let s = given p ids.now votes.now numbers.now permutations.now keys.now in
-        Shaped s mask × (Placed s mask (lists p) places.now
-        × ((j < p.ballots) × ((side ≤ 1) × (at + p.compared * 112 ≤ length out.old)))) }
-    ensures { let s = inputs_of (given p ids.now votes.now numbers.now permutations.now keys.now) in
-        let place : ℕ → ℕ = λ l. link_position s l j in
-        let half : ℕ → List ℕ = λ l. list_half_command l (place l) (λ k. entry_opening s l (place l) (2 * k + side)) in
-        Went out.old at (chunks (λ l. choose (bit mask l) [] (half l)) (lists p)) out.new result }
+    requires { Shaped s.now mask × (Placed s.now mask (lists s.now.parameters) places.now
+        × ((j < s.now.parameters.ballots)
+        × ((side ≤ 1) × (at + s.now.parameters.compared * 112 ≤ length out.old)))) }
+    ensures { let t = inputs_of s.now in
+        let place : ℕ → ℕ = λ l. link_position t l j in
+        let half : ℕ → List ℕ = λ l. list_half_command l (place l) (λ k. entry_opening t l (place l) (2 * k + side)) in
+        Went out.old at (chunks (λ l. choose (bit mask l) [] (half l)) (lists s.now.parameters)) out.new result }
 {
-    let lists = 2 * p.compared;
+    let lists = 2 * s.parameters.compared;
     let mut next = at;
-    let mut l: usize = 0;
-    while l < lists {
-        next = put_if_compared(
-            out,
-            next,
-            p,
-            ids,
-            votes,
-            numbers,
-            permutations,
-            keys,
-            mask,
-            places,
-            l,
-            j,
-            side,
-        );
-        l += 1;
+    for l in 0..lists {
+        next = put_if_compared(out, next, s, mask, places, l, j, side);
     }
     next
 }
@@ -101,157 +76,51 @@ fn put_linked(
 fn put_halves_of(
     out: &mut [u8],
     at: usize,
-    p: Parameters,
-    ids: &[u32],
-    votes: &[u32],
-    numbers: &[u32],
-    permutations: &[u16],
-    keys: &[u8],
+    s: &Inputs,
     mask: u32,
     places: &[u16],
     j: usize,
     side: u32,
 ) -> usize
-    requires { let s = given p ids.now votes.now numbers.now permutations.now keys.now in
-        Shaped s mask × (Placed s mask (lists p) places.now
-        × ((j < p.ballots) × ((side ≤ 1) × (at + (p.compared + 1) * 112 ≤ length out.old)))) }
-    ensures { let s = inputs_of (given p ids.now votes.now numbers.now permutations.now keys.now) in
-        let d = posted_disclosure s [] (λ _. side) in
-        Went out.old at (said.halves p mask (link_position s) d j) out.new result }
+    requires { Shaped s.now mask × (Placed s.now mask (lists s.now.parameters) places.now
+        × ((j < s.now.parameters.ballots)
+        × ((side ≤ 1) × (at + (s.now.parameters.compared + 1) * 112 ≤ length out.old)))) }
+    ensures { let t = inputs_of s.now in
+        let d = posted_disclosure t [] (λ _. side) in
+        Went out.old at (said.halves s.now.parameters mask (link_position t) d j) out.new result }
 {
+    let keys = s.keys;
     let from = KEYS_WIDTH * j;
     let to = from + KEYS_WIDTH;
-    let six = mixing::ballot(p, votes, numbers, j);
+    let six = mixing::ballot(s, j);
     let next = commands::put_ballot_half(out, at, j as u32, side, six, &keys[from..to]);
-    put_linked(
-        out,
-        next,
-        p,
-        ids,
-        votes,
-        numbers,
-        permutations,
-        keys,
-        mask,
-        places,
-        j,
-        side,
-    )
+    put_linked(out, next, s, mask, places, j, side)
 }
 
 // Commands 07 and 08 of all ballots, with the places of the entries linked to them.
-fn put_with(
-    out: &mut [u8],
-    at: usize,
-    p: Parameters,
-    ids: &[u32],
-    votes: &[u32],
-    numbers: &[u32],
-    permutations: &[u16],
-    keys: &[u8],
-    mask: u32,
-    sides: &[u8],
-    places: &[u16],
-) -> usize
-    requires { let s = given p ids.now votes.now numbers.now permutations.now keys.now in
-        Shaped s mask × (Sided s sides.now × (Placed s mask (lists p) places.now
-        × (at + p.ballots * ((p.compared + 1) * 112) ≤ length out.old))) }
-    ensures { let s = inputs_of (given p ids.now votes.now numbers.now permutations.now keys.now) in
-        let d = posted_disclosure s [] (item sides.now) in
-        Went out.old at (chunks (said.halves p mask (link_position s) d) p.ballots) out.new result }
+fn put_with(out: &mut [u8], at: usize, s: &Inputs, mask: u32, sides: &[u8], places: &[u16]) -> usize
+    requires { Shaped s.now mask × (Sided s.now sides.now × (Placed s.now mask (lists s.now.parameters) places.now
+        × (at + s.now.parameters.ballots * ((s.now.parameters.compared + 1) * 112) ≤ length out.old))) }
+    ensures { let t = inputs_of s.now in
+        let d = posted_disclosure t [] (item sides.now) in
+        Went out.old at (chunks (said.halves s.now.parameters mask (link_position t) d) s.now.parameters.ballots) out.new result }
 {
-    let n = p.ballots;
     let mut next = at;
-    let mut j: usize = 0;
-    while j < n {
-        let side = sides[j] as u32;
-        next = put_halves_of(
-            out,
-            next,
-            p,
-            ids,
-            votes,
-            numbers,
-            permutations,
-            keys,
-            mask,
-            places,
-            j,
-            side,
-        );
-        j += 1;
+    for (j, side) in sides.iter().enumerate() {
+        next = put_halves_of(out, next, s, mask, places, j, *side as u32);
     }
     next
 }
 
-// .. worked out first, in the room that is lent.
-fn put_in(
-    out: &mut [u8],
-    at: usize,
-    p: Parameters,
-    ids: &[u32],
-    votes: &[u32],
-    numbers: &[u32],
-    permutations: &[u16],
-    keys: &[u8],
-    mask: u32,
-    sides: &[u8],
-    places: &mut [u16],
-) -> usize
-    requires { let s = given p ids.now votes.now numbers.now permutations.now keys.now in
-        Shaped s mask × (Sided s sides.now × ((p.compared * p.ballots ≤ length places.old)
-        × (at + p.ballots * ((p.compared + 1) * 112) ≤ length out.old))) }
-    ensures { let s = inputs_of (given p ids.now votes.now numbers.now permutations.now keys.now) in
-        let d = posted_disclosure s [] (item sides.now) in
-        Went out.old at (chunks (said.halves p mask (link_position s) d) p.ballots) out.new result }
-{
-    placing::place_all(p, ids, votes, numbers, permutations, keys, mask, places);
-    put_with(
-        out,
-        at,
-        p,
-        ids,
-        votes,
-        numbers,
-        permutations,
-        keys,
-        mask,
-        sides,
-        places,
-    )
-}
-
-// .. with that room: a place for each ballot in each compared list.
-pub fn put_halves(
-    out: &mut [u8],
-    at: usize,
-    p: Parameters,
-    ids: &[u32],
-    votes: &[u32],
-    numbers: &[u32],
-    permutations: &[u16],
-    keys: &[u8],
-    mask: u32,
-    sides: &[u8],
-) -> usize
-    requires { let s = given p ids.now votes.now numbers.now permutations.now keys.now in
-        Shaped s mask × (Sided s sides.now × (at + p.ballots * ((p.compared + 1) * 112) ≤ length out.old)) }
-    ensures { let s = inputs_of (given p ids.now votes.now numbers.now permutations.now keys.now) in
-        let d = posted_disclosure s [] (item sides.now) in
-        Went out.old at (chunks (said.halves p mask (link_position s) d) p.ballots) out.new result }
+// .. with the room for these: a place for each ballot in each compared list.
+pub fn put_halves(out: &mut [u8], at: usize, s: &Inputs, mask: u32, sides: &[u8]) -> usize
+    requires { Shaped s.now mask × (Sided s.now sides.now
+        × (at + s.now.parameters.ballots * ((s.now.parameters.compared + 1) * 112) ≤ length out.old)) }
+    ensures { let t = inputs_of s.now in
+        let d = posted_disclosure t [] (item sides.now) in
+        Went out.old at (chunks (said.halves s.now.parameters mask (link_position t) d) s.now.parameters.ballots) out.new result }
 {
     let mut places = [0u16; 12 * MOST_BALLOTS];
-    put_in(
-        out,
-        at,
-        p,
-        ids,
-        votes,
-        numbers,
-        permutations,
-        keys,
-        mask,
-        sides,
-        &mut places,
-    )
+    placing::place_all(s, mask, &mut places);
+    put_with(out, at, s, mask, sides, &places)
 }

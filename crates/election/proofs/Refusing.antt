@@ -1,5 +1,5 @@
 -- What is known where nothing is refused.
-use mathlib.Core.Path.{◌≡◌}
+use mathlib.Core.Path.{◌≡◌, sym}
 use mathlib.Core.List.{List}
 use Prim.Native.Nat.{ℕ, ◌+◌}
 use Rattle.laws.specs.Faults.{rules}
@@ -19,9 +19,10 @@ module _ (s : Slices) (by_mask : Choice ℕ) (dice₁ : List ℕ) (by_sides : Ch
     pub third : ThirdReady s (election_mask s by_mask dice₁) by_sides dice₂ three_length
     pub joined_long : joined_length ≡ one_length + two_length + three_length
 
-  pub ready : election_refusal s by_mask dice₁ by_sides dice₂ one_length two_length three_length joined_length ≡ 0 → Ready
+  pub ready : 0 ≡ election_refusal s by_mask dice₁ by_sides dice₂ one_length two_length three_length joined_length → Ready
   unfolding election_refusal
-  ready e =
+  ready h =
+      let e = sym h in
       let u = unrefused s _ _ _ _ e in
       let p : Passed s = record { lengths = _; fair = _; shape = _; binary = _; tests = u } in
       let (d₁, (d₂, (each, (l₁, (l₂, (l₃, _)))))) = simp rules at u.lengths_due in

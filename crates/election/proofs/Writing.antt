@@ -1,56 +1,59 @@
 -- The parts by the switches, each written on what the ones before left, and the three joined.
-use mathlib.Core.Path.{◌≡◌, refl, ap, ◌∙◌}
-use mathlib.Core.Bool.{Bool, true, false}
+use mathlib.Core.Path.{◌≡◌, ap, ◌∙◌}
+use mathlib.Core.Bool.{true}
+use Rattle.std.specs.Prelude.{Option, Some, None}
+use denote.Ref.{Bor}
 use mathlib.Core.List.{List, ◌++◌, append_assoc}
 use Prim.Native.Nat.{ℕ, ◌+◌}
 use native.Mathlib.Omega.{arith}
 use lib.ListN.{length, length-append}
 use Rattle.laws.specs.Tests.{equal_iff}
 use Rattle.laws.specs.Writing.{Went, go_on, go_same, whole}
-use Rattle.protocol.specs.declared.Parameters.{Parameters}
 use Rattle.protocol.specs.Rules.{right_shape}
 use Rattle.protocol.specs.Drawing.{challenge, drawn_mask}
 use Rattle.protocol.specs.Inputs.{Slices}
 use Rattle.protocol.specs.Refusals.{binary_sides}
 use Rattle.protocol.specs.Servers.{first_part, second_part, mask_for, third_part, sides_for}
-use Rattle.protocol.specs.Election.{Choice, choice_of, mask_in_shape, sides_due, sides_binary, mask_by, sides_by, election_mask, election_two, election_sides, election_three, election_record}
+use Rattle.protocol.specs.Election.{Choice, mask_in_shape, sides_due, sides_binary, mask_by, sides_by, election_mask, election_two, election_sides, election_three, election_record}
+use Rattle.protocol.specs.Election.{choice_in, sides_lent}
 use Rattle.election.specs.Holding.{Lent, buffers, parts_of}
 
--- ---- by the switches
+-- ---- given, or drawn
 
-module _ (s : Slices) (dice one : List ℕ) {b : Bool} (mask : ℕ) where
+module _ (s : Slices) (dice one : List ℕ) {m : Option ℕ} where
   -- the mask that part two is written with
-  pub mask_on : {after : List ℕ} → b ≡ true → after ≡ second_part s dice mask
-      → (mask ≡ mask_by s (choice_of b mask) dice one) × (after ≡ second_part s dice (mask_by s (choice_of b mask) dice one))
-  unfolding choice_of mask_by
-  mask_on on e = rw on (refl, e)
+  pub mask_given : {x r : ℕ} → m ≡ Some x → r ≡ x → r ≡ mask_by s (choice_in m) dice one
+  unfolding mask_by
+  mask_given is e = rw is e
 
-  pub mask_off : {r : ℕ} {after : List ℕ} → b ≡ false → r ≡ drawn_mask s.parameters.compared (challenge dice one) → after ≡ second_part s dice r
-      → (r ≡ mask_by s (choice_of b mask) dice one) × (after ≡ second_part s dice (mask_by s (choice_of b mask) dice one))
-  unfolding choice_of mask_by mask_for
-  mask_off off m e = rw off (m, e ∙ ap (second_part s dice) m)
+  pub mask_drawn : {r : ℕ} → m ≡ None → r ≡ drawn_mask s.parameters.compared (challenge dice one) → r ≡ mask_by s (choice_in m) dice one
+  unfolding mask_by mask_for
+  mask_drawn is e = rw is e
 
-module _ (s : Slices) (dice one two : List ℕ) {b : Bool} (sides : List ℕ) where
+  pub shape_given : {x : ℕ} → m ≡ Some x → mask_in_shape s.parameters (choice_in m) ≡ true → right_shape s.parameters.compared x ≡ true
+  unfolding mask_in_shape
+  shape_given is h = rw is at h
+
+module _ (s : Slices) (dice one two : List ℕ) {m : Option (Bor (List ℕ))} where
   -- the sides that part three is written with
-  pub sides_on : (mask : ℕ) {after : List ℕ} → b ≡ true → after ≡ third_part s dice mask sides → after ≡ third_part s dice mask (sides_by s (choice_of b sides) dice one two)
-  unfolding choice_of sides_by
-  sides_on mask on e = rw on e
+  pub sides_given : (mask : ℕ) {x : Bor (List ℕ)} {after : List ℕ} → m ≡ Some x → after ≡ third_part s dice mask x.now
+      → after ≡ third_part s dice mask (sides_by s (sides_lent m) dice one two)
+  unfolding sides_by
+  sides_given mask is e = rw is e
 
-  pub sides_off : (mask : ℕ) {after : List ℕ} → b ≡ false → after ≡ third_part s dice mask (sides_for s dice one two) → after ≡ third_part s dice mask (sides_by s (choice_of b sides) dice one two)
-  unfolding choice_of sides_by
-  sides_off mask off e = rw off e
+  pub sides_drawn : (mask : ℕ) {after : List ℕ} → m ≡ None → after ≡ third_part s dice mask (sides_for s dice one two)
+      → after ≡ third_part s dice mask (sides_by s (sides_lent m) dice one two)
+  unfolding sides_by
+  sides_drawn mask is e = rw is e
 
-pub long_on : (p : Parameters) (b : Bool) (sides : List ℕ) → b ≡ true → sides_due p (choice_of b sides) ≡ true → length sides ≡ p.ballots
-unfolding choice_of sides_due
-long_on p b sides on h = (equal_iff _ _).0 (rw on at h)
+module _ (s : Slices) {m : Option (Bor (List ℕ))} {x : Bor (List ℕ)} (is : m ≡ Some x) where
+  pub long_given : sides_due s.parameters (sides_lent m) ≡ true → length x.now ≡ s.parameters.ballots
+  unfolding sides_due
+  long_given h = (equal_iff _ _).0 (rw is at h)
 
-pub binary_on : (s : Slices) (b : Bool) (sides : List ℕ) → b ≡ true → sides_binary s (choice_of b sides) ≡ true → binary_sides s sides ≡ true
-unfolding choice_of sides_binary
-binary_on s b sides on h = rw on at h
-
-pub shape_on : (p : Parameters) (b : Bool) (mask : ℕ) → b ≡ true → mask_in_shape p (choice_of b mask) ≡ true → right_shape p.compared mask ≡ true
-unfolding choice_of mask_in_shape
-shape_on p b mask on h = rw on at h
+  pub binary_given : sides_binary s (sides_lent m) ≡ true → binary_sides s x.now ≡ true
+  unfolding sides_binary
+  binary_given h = rw is at h
 
 -- ---- the three buffers
 

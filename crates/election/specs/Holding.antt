@@ -1,15 +1,15 @@
 -- Document 01, "Servers' writing" and "Proofs": the three calls and the judge as one election.
-use Rattle.std.specs.Prelude.{◌≡◌, true, false, List, [], ◌∷◌, ℕ, length}
+use Rattle.std.specs.Prelude.{◌≡◌, true, false, List, [], ◌∷◌, ℕ, length, Result, Ok, Err, ⊤}
 use Rattle.laws.specs.Sorting.{sort}
-use Rattle.protocol.specs.Answers.{Answer, done, refused, answer_of, accepted}
+use Rattle.protocol.specs.Answers.{Answer, done, refused, answer_of, accepted, rule_number}
 use Rattle.protocol.specs.Inputs.{Slices}
 use Rattle.protocol.specs.Refusals.{afterwards}
 use Rattle.protocol.specs.Servers.{first_part}
 use Rattle.protocol.specs.Judging.{judged}
 use Rattle.protocol.specs.Results.{announced_votes}
 use Rattle.protocol.specs.Election.{Choice, drawn, election_two, election_three, election_record, election_refusal}
-use Rattle.election.specs.declared.Outcome.{Outcome}
-use Rattle.election.specs.declared.Outcome.TheVariants as outcome
+use Rattle.election.specs.declared.Failure.{Failure}
+use Rattle.election.specs.declared.Failure.TheVariants as failure
 
 -- an election that is held has no value where plain judging accepts its record, else the number of the rule that judging found broken
 abbrev pub rejection : Answer → List ℕ
@@ -17,10 +17,10 @@ rejection (done values) = []
 rejection (refused k) = k ∷ []
 
 -- the number and values of each of the enum's cases
-abbrev pub outcome_answer : Outcome → Answer
-outcome_answer (outcome.Refused k) = refused k
-outcome_answer outcome.Accepted = done []
-outcome_answer (outcome.Rejected k) = done (k ∷ [])
+abbrev pub outcome_answer : Result ⊤ Failure → Answer
+outcome_answer (Ok x) = done []
+outcome_answer (Err (failure.Refused rule)) = refused (rule_number rule)
+outcome_answer (Err (failure.Rejected rule)) = done (rule_number rule ∷ [])
 
 -- what is lent: the slices, and mask and sides as they are given or drawn, each with its dice
 pub record Lent : Type 0 where

@@ -1,107 +1,61 @@
 // The three calls of the servers and the judge as one election: what they are lent is tested first, then the parts are written, joined and
-// judged. Mask and sides are each given or drawn: where a switch says drawn, what is lent in their place is not looked at.
+// judged. Mask and sides are each given, or drawn where there are none.
 #![tactic(auto)]
 
-ghost use Rattle.std.specs.Prelude.{◌≡◌, ◌++◌, ◌+◌, length};
-ghost use Rattle.protocol.specs.Terms.{parameters};
-ghost use Rattle.protocol.specs.Inputs.{given};
+ghost use Rattle.std.specs.Prelude.{◌≡◌, ◌++◌, ◌+◌, ◌<◌, length};
+ghost use Rattle.laws.specs.Bytes.{Below};
+ghost use Rattle.protocol.specs.Terms.{election_number};
 ghost use Rattle.protocol.specs.Servers.{second_part, third_part};
-ghost use Rattle.protocol.specs.Election.{choice_of, mask_by, sides_by, election_refusal};
+ghost use Rattle.protocol.specs.Election.{mask_by, sides_by, election_refusal};
+ghost use Rattle.protocol.specs.Election.{choice_in, sides_lent};
 ghost use Rattle.election.specs.Holding.{outcome_answer, lent, buffers, parts_of, Held};
 ghost use Rattle.election.specs.Ready.{SecondReady, ThirdReady};
 
-use protocol::{Form, MOST_BALLOTS, Parameters, Verdict};
+use protocol::{Form, Inputs, MOST_BALLOTS, Rule};
 
-// The answer of an election: the first refusal of what it is lent, or else the verdict on the joined record.
+// Why no accepted record comes of an election: a rule that what is lent breaks, or one that the written record breaks.
 #[derive(Clone, Copy)]
-pub enum Outcome {
-    Refused(u32),
-    Accepted,
-    Rejected(u32),
+pub enum Failure {
+    Refused(Rule),
+    Rejected(Rule),
 }
 
 // Part two, and the mask that it has.
-fn write_second(
-    p: Parameters,
-    ids: &[u32],
-    votes: &[u32],
-    numbers: &[u32],
-    permutations: &[u16],
-    keys: &[u8],
-    mask_given: bool,
-    mask: u32,
-    dice: &[u8],
-    one: &[u8],
-    two: &mut [u8],
-) -> u32
-    requires { let s = given p ids.now votes.now numbers.now permutations.now keys.now in
-        SecondReady s (choice_of mask_given mask) dice.now (length two.old) }
-    ensures { let s = given p ids.now votes.now numbers.now permutations.now keys.now in
-        let used = mask_by s (choice_of mask_given mask) dice.now one.now in
-        (result ≡ used) × (two.new ≡ second_part s dice.now used) }
+fn write_second(s: &Inputs, mask: Option<u32>, dice: &[u8], one: &[u8], two: &mut [u8]) -> u32
+    requires { SecondReady s.now (choice_in mask) dice.now (length two.old) }
+    ensures { let used = mask_by s.now (choice_in mask) dice.now one.now in
+        (result ≡ used) × (two.new ≡ second_part s.now dice.now used) }
 {
-    if mask_given {
-        comparison::write(p, ids, votes, numbers, permutations, keys, dice, mask, two);
-        return mask;
-    }
-    let drawn = comparison::mask_of(p, dice, one);
-    comparison::write(p, ids, votes, numbers, permutations, keys, dice, drawn, two);
-    drawn
+    let p = s.parameters;
+    let used = match mask {
+        Some(mask) => mask,
+        None => comparison::mask_of(p, dice, one),
+    };
+    comparison::write(s, dice, used, two);
+    used
 }
 
 // Part three.
 fn write_third(
-    p: Parameters,
-    ids: &[u32],
-    votes: &[u32],
-    numbers: &[u32],
-    permutations: &[u16],
-    keys: &[u8],
+    s: &Inputs,
     mask: u32,
-    sides_given: bool,
-    sides: &[u8],
+    sides: Option<&[u8]>,
     dice: &[u8],
     one: &[u8],
     two: &[u8],
     three: &mut [u8],
 )
-    requires { let s = given p ids.now votes.now numbers.now permutations.now keys.now in
-        ThirdReady s mask (choice_of sides_given sides.now) dice.now (length three.old) }
-    ensures { let s = given p ids.now votes.now numbers.now permutations.now keys.now in
-        let used = sides_by s (choice_of sides_given sides.now) dice.now one.now two.now in
-        three.new ≡ third_part s dice.now mask used }
+    requires { ThirdReady s.now mask (sides_lent sides) dice.now (length three.old) }
+    ensures { let used = sides_by s.now (sides_lent sides.entry) dice.now one.now two.now in
+        three.new ≡ third_part s.now dice.now mask used }
 {
-    if sides_given {
-        disclosure::write(
-            p,
-            ids,
-            votes,
-            numbers,
-            permutations,
-            keys,
-            dice,
-            mask,
-            sides,
-            three,
-        );
+    if let Some(sides) = sides {
+        disclosure::write(s, dice, mask, sides, three);
         return;
     }
-    let n = p.ballots;
+    let n = s.parameters.ballots;
     let mut drawn = [0u8; MOST_BALLOTS];
-    disclosure::write_drawn(
-        p,
-        ids,
-        votes,
-        numbers,
-        permutations,
-        keys,
-        dice,
-        mask,
-        one,
-        two,
-        &mut drawn[..n],
-        three,
-    );
+    disclosure::write_drawn(s, dice, mask, one, two, &mut drawn[..n], three);
 }
 
 // The three buffers, joined in order.
@@ -116,115 +70,61 @@ fn join(one: &[u8], two: &[u8], three: &[u8], joined: &mut [u8])
 
 // The three parts of inputs that are not refused, and the record that they make.
 fn write(
-    p: Parameters,
-    ids: &[u32],
-    votes: &[u32],
-    numbers: &[u32],
-    permutations: &[u16],
-    keys: &[u8],
-    mask_given: bool,
-    mask: u32,
+    s: &Inputs,
+    mask: Option<u32>,
     first_dice: &[u8],
-    sides_given: bool,
-    sides: &[u8],
+    sides: Option<&[u8]>,
     second_dice: &[u8],
     one: &mut [u8],
     two: &mut [u8],
     three: &mut [u8],
     joined: &mut [u8],
 )
-    requires { let s = given p ids.now votes.now numbers.now permutations.now keys.now in
-        let byMask = choice_of mask_given mask in
-        let bySides = choice_of sides_given sides.now in
-        let k = election_refusal s byMask first_dice.now bySides second_dice.now in
-        k (length one.old) (length two.old) (length three.old) (length joined.old) ≡ 0 }
-    ensures { let s = given p ids.now votes.now numbers.now permutations.now keys.now in
-        let byMask = choice_of mask_given mask in
-        let bySides = choice_of sides_given sides.now in
-        let e = lent s byMask first_dice.now bySides second_dice.now in
+    requires { let by_mask = choice_in mask in
+        let by_sides = sides_lent sides in
+        let k = election_refusal s.now by_mask first_dice.now by_sides second_dice.now in
+        0 ≡ k (length one.old) (length two.old) (length three.old) (length joined.old) }
+    ensures { let by_mask = choice_in mask in
+        let by_sides = sides_lent sides.entry in
+        let e = lent s.now by_mask first_dice.now by_sides second_dice.now in
         buffers one.new two.new three.new joined.new ≡ parts_of e }
 {
-    board::write(p, ids, votes, numbers, permutations, keys, one);
-    let used = write_second(
-        p,
-        ids,
-        votes,
-        numbers,
-        permutations,
-        keys,
-        mask_given,
-        mask,
-        first_dice,
-        one,
-        two,
-    );
-    write_third(
-        p,
-        ids,
-        votes,
-        numbers,
-        permutations,
-        keys,
-        used,
-        sides_given,
-        sides,
-        second_dice,
-        one,
-        two,
-        three,
-    );
+    board::write(s, one);
+    let used = write_second(s, mask, first_dice, one, two);
+    write_third(s, used, sides, second_dice, one, two, three);
     join(one, two, three, joined);
 }
+
+// What the types say: four bytes hold the election's number, and each id. It does nothing when it runs.
+fn fit(form: Form, ids: &[u32])
+    ensures { (election_number form < 4294967296) × Below 4294967296 ids.now }
+{}
 
 // Entry: the election. Whatever the buffers held, where nothing is refused they hold the parts and the record, which plain judging accepts
 // and which announces the votes given, smallest first; where mask and sides are drawn, drawn judging accepts it too.
 pub fn hold(
-    mask_given: bool,
-    sides_given: bool,
-    form: Form,
-    modulus: u32,
-    ballots: u32,
-    compared: u32,
-    ids: &[u32],
-    votes: &[u32],
-    numbers: &[u32],
-    permutations: &[u16],
-    keys: &[u8],
+    s: &Inputs,
+    mask: Option<u32>,
     first_dice: &[u8],
-    mask: u32,
+    sides: Option<&[u8]>,
     second_dice: &[u8],
-    sides: &[u8],
     one: &mut [u8],
     two: &mut [u8],
     three: &mut [u8],
     joined: &mut [u8],
-) -> Outcome
-    ensures { let p = parameters form modulus ballots compared in
-        let s = given p ids.now votes.now numbers.now permutations.now keys.now in
-        let byMask = choice_of mask_given mask in
-        let bySides = choice_of sides_given sides.now in
-        let e = lent s byMask first_dice.now bySides second_dice.now in
+) -> Result<(), Failure>
+    ensures { let by_mask = choice_in mask in
+        let by_sides = sides_lent sides.entry in
+        let e = lent s.now by_mask first_dice.now by_sides second_dice.now in
         let was = buffers one.old two.old three.old joined.old in
         let is = buffers one.new two.new three.new joined.new in
         Held e was is (outcome_answer result) }
 {
-    let p = Parameters {
-        form,
-        modulus,
-        ballots: ballots as usize,
-        compared: compared as usize,
-    };
-    let k = refusals::election(
-        p,
-        ids,
-        votes,
-        numbers,
-        permutations,
-        keys,
-        mask_given,
+    fit(s.parameters.form, s.ids);
+    let tested = refusals::election(
+        s,
         mask,
         first_dice,
-        sides_given,
         sides,
         second_dice,
         one.len(),
@@ -232,20 +132,13 @@ pub fn hold(
         three.len(),
         joined.len(),
     );
-    if k != 0 {
-        return Outcome::Refused(k);
+    if let Err(rule) = tested {
+        return Err(Failure::Refused(rule));
     }
     write(
-        p,
-        ids,
-        votes,
-        numbers,
-        permutations,
-        keys,
-        mask_given,
+        s,
         mask,
         first_dice,
-        sides_given,
         sides,
         second_dice,
         one,
@@ -254,7 +147,7 @@ pub fn hold(
         joined,
     );
     match verifier::judge_plainly(joined) {
-        Verdict::Accepted => Outcome::Accepted,
-        Verdict::Refused(broken) => Outcome::Rejected(broken),
+        Ok(()) => Ok(()),
+        Err(rule) => Err(Failure::Rejected(rule)),
     }
 }

@@ -4,8 +4,11 @@ use Rattle.std.proofs.Math.Path.{refl}
 use Rattle.std.proofs.Common.{sym, ap, ap₂, ◌∙◌, inl, inr, not-suc-le-zero, le_refl, eq-or-lt_of_le, le_of_suc-le-suc, add-one, arith, ltb-true}
 use Rattle.laws.specs.Search.{last_or}
 use Rattle.laws.specs.Tests.{choose, never, equal_iff, differ_iff, below_iff, at_most_iff, and_iff, implies_iff, or_iff, every_iff, same_iff, unlike_iff}
-use Rattle.laws.specs.declared.Found.{Found}
-use Rattle.laws.specs.declared.Found.TheVariants.{Nothing, Fault}
+
+-- what a search for broken rules finds: nothing, or the number of the first broken rule and the place where its command starts
+pub data Found : Type 0 where
+  Nothing : Found
+  Fault : (number : ℕ) → (place : ℕ) → Found
 
 -- no rule is broken
 abbrev pub kept : ℕ

@@ -1,9 +1,2 @@
-// What a search for broken rules finds: nothing, or the number of the first broken rule and the place where its command starts.
-// The laws of first faults are about this type, so it stands with them.
+// Mathematics alone: no code stands here. What it says is in specs/, and what that means together in proofs/.
 #![tactic(auto)]
-
-#[derive(Clone, Copy)]
-pub enum Found {
-    Nothing,
-    Fault(u32, usize),
-}

@@ -27,22 +27,21 @@ fn form(bytes: &[u8]) -> Form
     ensures { result ≡ form_of bytes.now }
 {
     if bytes[0] == 0x0C {
-        return Form::Numbered(wire::read4(bytes, 1));
+        Form::Numbered(wire::read4(bytes, 1))
+    } else {
+        Form::Unnumbered
     }
-    Form::Unnumbered
 }
 
 // The form that is due of a first command, which may be cut short: its byte tells, and no number is read.
 pub fn due_form(bytes: &[u8]) -> Form
     ensures { places.first_code result ≡ places.first_code (form_of bytes.now) }
 {
-    if bytes.len() == 0 {
-        return Form::Unnumbered;
+    if !bytes.is_empty() && bytes[0] == 0x0C {
+        Form::Numbered(0)
+    } else {
+        Form::Unnumbered
     }
-    if bytes[0] != 0x0C {
-        return Form::Unnumbered;
-    }
-    Form::Numbered(0)
 }
 
 // The parameters that the first command says.
@@ -64,8 +63,7 @@ pub fn parameters(bytes: &[u8]) -> Parameters
 fn first_width(p: Parameters) -> usize
     ensures { (result ≡ places.first_width p) × (result ≤ 12) }
 {
-    let form = p.form;
-    8 + number_width(form)
+    8 + number_width(p.form)
 }
 
 // How many lists there are.
@@ -118,7 +116,7 @@ pub fn rank(mask: u32, l: usize) -> usize
     requires { l ≤ 24 }
     ensures { (result ≡ set_before mask l) × (l - result ≡ clear_before mask l) × (result ≤ l) }
 {
-    u32::count_ones(mask % (1 << (l as u32))) as usize
+    (mask % (1 << (l as u32))).count_ones() as usize
 }
 
 // c compared lists come before.

@@ -6,11 +6,7 @@ use Rattle.laws.specs.Permutations.{Perm}
 use Rattle.protocol.specs.declared.Parameters.{Parameters}
 use Rattle.protocol.specs.Terms.{item, most_ballots}
 use Rattle.protocol.specs.Layout.{lists}
-use Rattle.protocol.specs.Inputs.{Slices, given, inputs_of}
-
--- the slices that are looked at: neither ids nor keys
-abbrev pub trail : Parameters → List ℕ → List ℕ → List ℕ → Slices
-trail p votes numbers permutations = given p [] votes numbers permutations []
+use Rattle.protocol.specs.Inputs.{Slices, inputs_of}
 
 -- list l of those that there are
 pub record InList (p : Parameters) (l : ℕ) : Type 0 where
@@ -19,21 +15,21 @@ pub record InList (p : Parameters) (l : ℕ) : Type 0 where
   pub list : l < lists p
 
 -- three permutations for each list
-pub record Places (p : Parameters) (permutations : List ℕ) : Type 0 where
-  pub long : length permutations ≡ 6 * (p.compared * p.ballots)
-  pub perms : (l c : ℕ) → l < lists p → c < 3 → Perm p.ballots ((inputs_of (trail p [] [] permutations)).permutation l c)
+pub record Places (s : Slices) : Type 0 where
+  pub long : length s.permutations ≡ 6 * (s.parameters.compared * s.parameters.ballots)
+  pub perms : (l c : ℕ) → l < lists s.parameters → c < 3 → Perm s.parameters.ballots ((inputs_of s).permutation l c)
 
 -- a vote below M for each ballot
-pub record Votes (p : Parameters) (votes : List ℕ) : Type 0 where
-  pub long : length votes ≡ p.ballots
-  pub small : Below p.modulus votes
+pub record Votes (s : Slices) : Type 0 where
+  pub long : length s.votes ≡ s.parameters.ballots
+  pub small : Below s.parameters.modulus s.votes
 
 -- numbers below M: five for each ballot, nine for each list entry
-pub record Numbers (p : Parameters) (numbers : List ℕ) : Type 0 where
-  pub few : p.ballots ≤ most_ballots
-  pub positive : 0 < p.modulus
-  pub long : length numbers ≡ 5 * p.ballots + 18 * (p.compared * p.ballots)
-  pub small : Below p.modulus numbers
+pub record Numbers (s : Slices) : Type 0 where
+  pub few : s.parameters.ballots ≤ most_ballots
+  pub positive : 0 < s.parameters.modulus
+  pub long : length s.numbers ≡ 5 * s.parameters.ballots + 18 * (s.parameters.compared * s.parameters.ballots)
+  pub small : Below s.parameters.modulus s.numbers
 
 -- three numbers that stand one behind the other
 abbrev pub three_at : List ℕ → ℕ → List ℕ

@@ -11,10 +11,7 @@ pub fn plus(m: u32, a: u32, b: u32) -> u32
     ensures { (result ≡ modulo.plus m a b) × (result < m) }
 {
     let room = m - b;
-    if room <= a {
-        return a - room;
-    }
-    a + b
+    if room <= a { a - room } else { a + b }
 }
 
 // a - b modulo m.
@@ -22,10 +19,7 @@ pub fn minus(m: u32, a: u32, b: u32) -> u32
     requires { (a < m) × (b < m) }
     ensures { (result ≡ modulo.minus m a b) × (result < m) }
 {
-    if b <= a {
-        return a - b;
-    }
-    a + (m - b)
+    if b <= a { a - b } else { a + (m - b) }
 }
 
 // a + b + c modulo m.

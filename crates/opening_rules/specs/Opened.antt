@@ -1,13 +1,19 @@
 -- What is asked of openings that stand one behind the other.
-use Rattle.std.specs.Prelude.{◌≡◌, true, List, ℕ, suc, ◌+◌, ◌*◌, ◌≤◌, ◌<◌, length}
+use Rattle.std.specs.Prelude.{◌≡◌, true, List, ℕ, zero, suc, ◌+◌, ◌*◌, ◌≤◌, ◌<◌, length}
 use Rattle.laws.specs.Bytes.{number}
+use Rattle.laws.specs.Modular.{plus}
 use Rattle.laws.specs.Chunks.{piece}
-use Rattle.protocol.specs.Terms.{most_ballots}
+use Rattle.protocol.specs.Terms.{most_ballots, opened}
 use Rattle.protocol.specs.Rules.{numbers_below}
 
 -- opening i of those that stand one behind the other from a place on
 abbrev pub opening_at : List ℕ → ℕ → ℕ → List ℕ
 opening_at r at i = piece r (at + 36 * i) 36
+
+-- the numbers of k openings, summed
+unfoldable pub sum_of : ℕ → (ℕ → List ℕ) → ℕ → ℕ
+sum_of M o zero = 0
+sum_of M o (suc k) = plus M (sum_of M o k) (opened (o k))
 
 -- k openings and the commitments that they are to give lie in the record
 pub record Openings (r : List ℕ) (at posted from step k : ℕ) : Type 0 where

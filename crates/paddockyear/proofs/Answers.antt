@@ -4,7 +4,9 @@ use mathlib.Core.List.{List}
 use Prim.Native.Nat.{ℕ}
 use Rattle.laws.specs.Tests.{choose}
 use Rattle.protocol.specs.Answers.{Answer}
-use Rattle.runoff.specs.declared.Runoff.{Runoff}
+use Rattle.std.specs.Prelude.{Result}
+use Rattle.protocol.specs.declared.Rule.{Rule}
+use Rattle.runoff.specs.declared.Counted.{Counted}
 use Rattle.runoff.specs.Rounds.{runoff_answer, ran_off, runoff_refusal, winner, blank_votes, spoiled_votes}
 use Rattle.paddockyear.specs.Codes.{code_of, value_in, code_is, value_is}
 
@@ -20,7 +22,7 @@ module _ (candidates : ℕ) (votes : List ℕ) (long : ℕ) where
       × ((after.1.0 ≡ choose (runoff_refusal candidates long) (blank_votes votes) before.1.0)
       × ((after.1.1 ≡ choose (runoff_refusal candidates long) (spoiled_votes candidates votes) before.1.1) × rest)))
 
-  pub told : (r : Runoff) (code : ℕ) (before after : ℕ × (ℕ × ℕ)) {rest : Type 0} → runoff_answer r ≡ ran_off candidates votes long → Coded (runoff_answer r) code before after → rest → Told code before after rest
+  pub told : (r : Result Counted Rule) (code : ℕ) (before after : ℕ × (ℕ × ℕ)) {rest : Type 0} → runoff_answer r ≡ ran_off candidates votes long → Coded (runoff_answer r) code before after → rest → Told code before after rest
   unfolding ran_off
   told r code before after e h t = (
     h.0 ∙ ap code_of e ∙ code_is _ _,

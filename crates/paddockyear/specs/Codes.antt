@@ -1,14 +1,13 @@
 -- What the C faces are told by numbers, and the numbers that they give for answers.
-use Rattle.std.specs.Prelude.{◌≡◌, refl, List, [], ◌∷◌, ℕ, zero, suc, ◌+◌}
+use Rattle.std.specs.Prelude.{◌≡◌, refl, List, [], ◌∷◌, ℕ, zero, suc, ◌+◌, Result, Ok, Err, ⊤}
 use Rattle.std.proofs.Common.{ap, ◌∙◌, arith}
 use Rattle.laws.specs.Tests.{differ, choose}
-use Rattle.laws.specs.declared.Found.{Found}
-use Rattle.laws.specs.declared.Found.TheVariants.{Nothing, Fault}
+use Rattle.laws.specs.Faults.{Found, Nothing, Fault}
 use Rattle.protocol.specs.declared.Form.{Form}
-use Rattle.protocol.specs.Answers.{Answer, done, refused, answer_of, accepted}
+use Rattle.protocol.specs.Answers.{Answer, done, refused, answer_of, accepted, rule_number}
 use Rattle.protocol.specs.Terms.{item, form_by}
-use Rattle.election.specs.declared.Outcome.{Outcome}
-use Rattle.election.specs.declared.Outcome.TheVariants as outcome
+use Rattle.election.specs.declared.Failure.{Failure}
+use Rattle.election.specs.declared.Failure.TheVariants as failure
 use Rattle.election.specs.Holding.{outcome_answer}
 use Rattle.schedule.specs.declared.Date.{Date}
 
@@ -38,10 +37,10 @@ receipt_code (done (suc k ∷ rest)) = 101 + k
 receipt_code (refused k) = k
 
 -- of the election: 0 for accepted, else the number of the refusal, or of the rule that the record breaks (which no record does)
-unfoldable pub outcome_code : Outcome → ℕ
-outcome_code (outcome.Refused k) = k
-outcome_code outcome.Accepted = 0
-outcome_code (outcome.Rejected k) = k
+unfoldable pub outcome_code : Result ⊤ Failure → ℕ
+outcome_code (Ok x) = 0
+outcome_code (Err (failure.Refused rule)) = rule_number rule
+outcome_code (Err (failure.Rejected rule)) = rule_number rule
 
 -- where a fault is, or the place as it was where there is none
 unfoldable pub place_in : Found → ℕ → ℕ
@@ -87,15 +86,16 @@ done_all zero values x y e = (refl, cc)
 done_all (suc n) values x y e = absurd (let z : ◌≡◌ {A = ℕ} 0 1 = cc in omega arith)
 
 -- an election's answer is that of its code: a record that is written is accepted
-pub outcome_answer_lem : (number : ℕ) (values : List ℕ) (o : Outcome) {r : ℕ} → outcome_answer o ≡ answer_of number values
+pub outcome_answer_lem : (number : ℕ) (values : List ℕ) (o : Result ⊤ Failure) {r : ℕ} → outcome_answer o ≡ answer_of number values
     → (number ≡ 0 → outcome_answer o ≡ accepted) → r ≡ outcome_code o → answer_of r [] ≡ outcome_answer o
 unfolding answer_of outcome_code
 outcome_answer_lem number values o {r} e h f = rw f (go number o e h)
   where
-    go : (number : ℕ) (o : Outcome) → outcome_answer o ≡ answer_of number values → (number ≡ 0 → outcome_answer o ≡ accepted)
+    go : (number : ℕ) (o : Result ⊤ Failure) → outcome_answer o ≡ answer_of number values → (number ≡ 0 → outcome_answer o ≡ accepted)
         → answer_of (outcome_code o) [] ≡ outcome_answer o
-    go number outcome.Accepted e h = refl
-    go zero (outcome.Refused k) e h = absurd (let z : ◌≡◌ {A = ℕ} 0 1 = cc in omega arith)
-    go (suc n) (outcome.Refused k) e h = let same : k ≡ suc n = cc in rw same
-    go zero (outcome.Rejected k) e h = absurd (let f : done (k ∷ []) ≡ accepted = h refl in let z : ◌≡◌ {A = ℕ} 0 1 = cc in omega arith)
-    go (suc n) (outcome.Rejected k) e h = absurd (let z : ◌≡◌ {A = ℕ} 0 1 = cc in omega arith)
+    go number (Ok x) e h = refl
+    go zero (Err (failure.Refused rule)) e h = absurd (let z : ◌≡◌ {A = ℕ} 0 1 = cc in omega arith)
+    go (suc n) (Err (failure.Refused rule)) e h = let same : rule_number rule ≡ suc n = cc in rw same
+    go zero (Err (failure.Rejected rule)) e h =
+        absurd (let f : done (rule_number rule ∷ []) ≡ accepted = h refl in let z : ◌≡◌ {A = ℕ} 0 1 = cc in omega arith)
+    go (suc n) (Err (failure.Rejected rule)) e h = absurd (let z : ◌≡◌ {A = ℕ} 0 1 = cc in omega arith)

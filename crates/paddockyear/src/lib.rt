@@ -10,7 +10,7 @@ ghost use Rattle.protocol.specs.Terms.{parameters};
 ghost use Rattle.protocol.specs.Tablet as tablets;
 ghost use Rattle.protocol.specs.Tablet.{tablet_command, tablet_refusal};
 ghost use Rattle.protocol.specs.Columns.{row_server, third_offsets, second_halves, row_refusal, pair_refusal};
-ghost use Rattle.protocol.specs.Answers.{answer_of, written_answer, receipt_answer};
+ghost use Rattle.protocol.specs.Answers.{answer_of, written_answer, receipt_answer, found_in};
 ghost use Rattle.protocol.specs.Drawing.{challenge, drawn_mask};
 ghost use Rattle.protocol.specs.Inputs.{given};
 ghost use Rattle.protocol.specs.Refusals.{part_one_refusal, part_two_refusal, part_two_drawn_refusal, part_three_refusal, part_three_drawn_refusal, afterwards};
@@ -23,11 +23,10 @@ ghost use Rattle.runoff.specs.Rounds as rounds;
 ghost use Rattle.schedule.specs.Windows as calendar;
 ghost use Rattle.paddockyear.specs.Codes.{form_told, date_told, code_of, value_in, receipt_code, place_in, outcome_code};
 
-use election::Outcome;
-use laws::Found;
-use protocol::{Draw, Form, Receipt, Tally, Written};
-use runoff::{Candidate, Runoff};
-use schedule::{Date, Minute, Schedule, Windows};
+use election::Failure;
+use protocol::{Fault, Form, Inputs, Parameters, Receipt, Rule};
+use runoff::{Candidate, Counted};
+use schedule::{Date, Phase, Windows};
 
 // Keccak-f[1600], in place.
 #[unsafe(no_mangle)]
@@ -72,12 +71,12 @@ pub extern "C" fn paddockyear_sha3_256_parts(a: &[u8], b: &[u8], c: &[u8], out: 
 // ---- tablet and mix servers
 
 // A writer's answer: 0, or the refusal's number.
-fn written_code(w: Written) -> u32
-    ensures { result ≡ code_of (written_answer w) }
+fn written_code(written: Result<(), Rule>) -> u32
+    ensures { result ≡ code_of (written_answer written) }
 {
-    match w {
-        Written::Done => 0,
-        Written::Refused(k) => k,
+    match written {
+        Ok(()) => 0,
+        Err(rule) => rule.number(),
     }
 }
 
@@ -86,9 +85,10 @@ fn form(numbered: u32, election: u32) -> Form
     ensures { result ≡ form_told numbered election }
 {
     if numbered != 0 {
-        return Form::Numbered(election);
+        Form::Numbered(election)
+    } else {
+        Form::Unnumbered
     }
-    Form::Unnumbered
 }
 
 // A vote's ballot command and receipt.
@@ -181,6 +181,18 @@ pub extern "C" fn paddockyear_split(
 
 // ---- the record writer
 
+// What the first command says.
+fn parameters(numbered: u32, election: u32, modulus: u32, ballots: u32, compared: u32) -> Parameters
+    ensures { result ≡ parameters (form_told numbered election) modulus ballots compared }
+{
+    Parameters {
+        form: form(numbered, election),
+        modulus,
+        ballots: ballots as usize,
+        compared: compared as usize,
+    }
+}
+
 // Part one.
 #[unsafe(no_mangle)]
 pub extern "C" fn paddockyear_part_one(
@@ -201,18 +213,15 @@ pub extern "C" fn paddockyear_part_one(
         let k = part_one_refusal s (length out.old) in
         (result ≡ k) × (out.new ≡ afterwards k out.old (first_part s)) }
 {
-    written_code(board::part_one(
-        form(numbered, election),
-        modulus,
-        ballots,
-        compared,
+    let inputs = Inputs {
+        parameters: parameters(numbered, election, modulus, ballots, compared),
         ids,
         votes,
         numbers,
         permutations,
         keys,
-        out,
-    ))
+    };
+    written_code(board::part_one(&inputs, out))
 }
 
 // Part two, mask given.
@@ -237,20 +246,15 @@ pub extern "C" fn paddockyear_part_two(
         let k = part_two_refusal s dice.now mask (length out.old) in
         (result ≡ k) × (out.new ≡ afterwards k out.old (second_part s dice.now mask)) }
 {
-    written_code(comparison::part_two(
-        form(numbered, election),
-        modulus,
-        ballots,
-        compared,
+    let inputs = Inputs {
+        parameters: parameters(numbered, election, modulus, ballots, compared),
         ids,
         votes,
         numbers,
         permutations,
         keys,
-        dice,
-        mask,
-        out,
-    ))
+    };
+    written_code(comparison::part_two(&inputs, dice, mask, out))
 }
 
 // Part two, mask drawn from the dice and part one as lent.
@@ -276,20 +280,15 @@ pub extern "C" fn paddockyear_part_two_drawn(
         let two = second_part s dice.now (mask_for s dice.now one.now) in
         (result ≡ k) × (out.new ≡ afterwards k out.old two) }
 {
-    written_code(comparison::part_two_drawn(
-        form(numbered, election),
-        modulus,
-        ballots,
-        compared,
+    let inputs = Inputs {
+        parameters: parameters(numbered, election, modulus, ballots, compared),
         ids,
         votes,
         numbers,
         permutations,
         keys,
-        dice,
-        one,
-        out,
-    ))
+    };
+    written_code(comparison::part_two_drawn(&inputs, dice, one, out))
 }
 
 // Part three, sides given.
@@ -315,21 +314,15 @@ pub extern "C" fn paddockyear_part_three(
         let k = part_three_refusal s dice.now mask sides.now (length out.old) in
         (result ≡ k) × (out.new ≡ afterwards k out.old (third_part s dice.now mask sides.now)) }
 {
-    written_code(disclosure::part_three(
-        form(numbered, election),
-        modulus,
-        ballots,
-        compared,
+    let inputs = Inputs {
+        parameters: parameters(numbered, election, modulus, ballots, compared),
         ids,
         votes,
         numbers,
         permutations,
         keys,
-        dice,
-        mask,
-        sides,
-        out,
-    ))
+    };
+    written_code(disclosure::part_three(&inputs, dice, mask, sides, out))
 }
 
 // Part three, sides drawn from the dice and parts one and two as lent.
@@ -357,22 +350,15 @@ pub extern "C" fn paddockyear_part_three_drawn(
         let three = third_part s dice.now mask (sides_for s dice.now one.now two.now) in
         (result ≡ k) × (out.new ≡ afterwards k out.old three) }
 {
-    written_code(disclosure::part_three_drawn(
-        form(numbered, election),
-        modulus,
-        ballots,
-        compared,
+    let inputs = Inputs {
+        parameters: parameters(numbered, election, modulus, ballots, compared),
         ids,
         votes,
         numbers,
         permutations,
         keys,
-        dice,
-        mask,
-        one,
-        two,
-        out,
-    ))
+    };
+    written_code(disclosure::part_three_drawn(&inputs, dice, mask, one, two, out))
 }
 
 // The mask that part two draws; `mask` is as it was on a refusal.
@@ -391,30 +377,24 @@ pub extern "C" fn paddockyear_draw_mask(
         let drawn = drawn_mask compared (challenge dice.now one.now) in
         (result ≡ k) × (mask.new ≡ choose k drawn mask.old) }
 {
-    match comparison::draw(
-        form(numbered, election),
-        modulus,
-        ballots,
-        compared,
-        dice,
-        one,
-    ) {
-        Draw::Refused(k) => k,
-        Draw::Mask(drawn) => {
+    let parameters = parameters(numbered, election, modulus, ballots, compared);
+    match comparison::draw(parameters, dice, one) {
+        Ok(drawn) => {
             *mask = drawn;
             0
         }
+        Err(rule) => rule.number(),
     }
 }
 
 // An election's answer: 0 for accepted, else the number.
-fn outcome_code(o: Outcome) -> u32
-    ensures { result ≡ outcome_code o }
+fn outcome_code(held: Result<(), Failure>) -> u32
+    ensures { result ≡ outcome_code held }
 {
-    match o {
-        Outcome::Accepted => 0,
-        Outcome::Refused(k) => k,
-        Outcome::Rejected(k) => k,
+    match held {
+        Ok(()) => 0,
+        Err(Failure::Refused(rule)) => rule.number(),
+        Err(Failure::Rejected(rule)) => rule.number(),
     }
 }
 
@@ -452,22 +432,20 @@ pub extern "C" fn paddockyear_election(
         let is = buffers one.new two.new three.new joined.new in
         Held e was is (answer_of result []) }
 {
-    outcome_code(election::hold(
-        mask_given != 0,
-        sides_given != 0,
-        form(numbered, election),
-        modulus,
-        ballots,
-        compared,
+    let inputs = Inputs {
+        parameters: parameters(numbered, election, modulus, ballots, compared),
         ids,
         votes,
         numbers,
         permutations,
         keys,
+    };
+    outcome_code(election::hold(
+        &inputs,
+        (mask_given != 0).then_some(mask),
         first_dice,
-        mask,
+        (sides_given != 0).then_some(sides),
         second_dice,
-        sides,
         one,
         two,
         three,
@@ -478,12 +456,12 @@ pub extern "C" fn paddockyear_election(
 // ---- the verifier
 
 // The number of a fault, 0 for none.
-fn number_of(f: Found) -> u32
-    ensures { result ≡ number_of f }
+fn number_of(found: Result<(), Fault>) -> u32
+    ensures { result ≡ number_of (found_in found) }
 {
-    match f {
-        Found::Nothing => 0,
-        Found::Fault(k, _) => k,
+    match found {
+        Ok(()) => 0,
+        Err(fault) => fault.rule.number(),
     }
 }
 
@@ -511,10 +489,10 @@ pub extern "C" fn paddockyear_first_fault(bytes: &[u8], drawn: u32, place: &mut 
         (result ≡ number_of found) × (place.new ≡ place_in found place.old) }
 {
     match verifier::first_fault(bytes, drawn != 0) {
-        Found::Nothing => 0,
-        Found::Fault(k, at) => {
-            *place = at as u64;
-            k
+        Ok(()) => 0,
+        Err(fault) => {
+            *place = fault.at as u64;
+            fault.rule.number()
         }
     }
 }
@@ -535,11 +513,11 @@ pub extern "C" fn paddockyear_tally(
         × ((values.new ≡ afterwards k values.old written) × (counts.new ≡ afterwards k counts.old counted))) }
 {
     match results::tally::tally(votes, values, counts) {
-        Tally::Refused(k) => k,
-        Tally::Pairs(k) => {
-            *pairs = k as u64;
+        Ok(written) => {
+            *pairs = written as u64;
             0
         }
+        Err(rule) => rule.number(),
     }
 }
 
@@ -561,14 +539,14 @@ pub extern "C" fn paddockyear_look_up(bytes: &[u8], printed: &[u8]) -> u32
     receipt_code(results::receipts::look_up(bytes, printed))
 }
 
-fn receipt_code(answer: Receipt) -> u32
+fn receipt_code(answer: Result<Receipt, Rule>) -> u32
     ensures { result ≡ receipt_code (receipt_answer answer) }
 {
     match answer {
-        Receipt::AsPrinted => 0,
-        Receipt::Otherwise => 101,
-        Receipt::NotPosted => 102,
-        Receipt::Refused(k) => k,
+        Ok(Receipt::AsPrinted) => 0,
+        Ok(Receipt::Otherwise) => 101,
+        Ok(Receipt::NotPosted) => 102,
+        Err(rule) => rule.number(),
     }
 }
 
@@ -584,21 +562,26 @@ pub extern "C" fn paddockyear_announced_votes(bytes: &[u8], out: &mut [u32]) -> 
 // ---- ranked votes
 
 // The number of an answer; its values into the numbers that are lent for them.
-fn runoff_code(r: Runoff, winner: &mut u32, blank: &mut u64, spoiled: &mut u64) -> u32
-    ensures { let answer = rounds.runoff_answer r in
+fn runoff_code(
+    counted: Result<Counted, Rule>,
+    winner: &mut u32,
+    blank: &mut u64,
+    spoiled: &mut u64,
+) -> u32
+    ensures { let answer = rounds.runoff_answer counted in
         (result ≡ code_of answer)
         × ((winner.new ≡ value_in answer 0 winner.old)
         × ((blank.new ≡ value_in answer 1 blank.old)
         × (spoiled.new ≡ value_in answer 2 spoiled.old))) }
 {
-    match r {
-        Runoff::Refused(k) => k,
-        Runoff::Counted(w, b, s) => {
-            *winner = w;
-            *blank = b;
-            *spoiled = s;
+    match counted {
+        Ok(votes) => {
+            *winner = votes.winner.unwrap_or(0);
+            *blank = votes.blank;
+            *spoiled = votes.spoiled;
             0
         }
+        Err(rule) => rule.number(),
     }
 }
 
@@ -619,8 +602,8 @@ pub extern "C" fn paddockyear_runoff(
         × ((spoiled.new ≡ choose k (rounds.spoiled_votes candidates votes.now) spoiled.old)
         × (table.new ≡ rounds.table_after candidates votes.now table.old)))) }
 {
-    let r = runoff::run_off(votes, candidates as usize, table);
-    runoff_code(r, winner, blank, spoiled)
+    let counted = runoff::run_off(votes, candidates as usize, table);
+    runoff_code(counted, winner, blank, spoiled)
 }
 
 // ---- calendar
@@ -655,17 +638,13 @@ pub extern "C" fn paddockyear_calendar(
         let numbers = calendar.numbers (calendar.windows election holidays.now) in
         (result ≡ k) × (windows.new ≡ choose k numbers windows.old) }
 {
-    let election = Date {
-        year: year,
-        month: month,
-        day: day,
-    };
+    let election = Date { year, month, day };
     match schedule::four_windows(election, holidays) {
-        Schedule::Refused(k) => k,
-        Schedule::Set(w) => {
-            *windows = numbers_of(w);
+        Ok(set) => {
+            *windows = numbers_of(set);
             0
         }
+        Err(rule) => rule.number(),
     }
 }
 
@@ -684,16 +663,12 @@ pub extern "C" fn paddockyear_window_at(
         let number = calendar.window_of (calendar.windows election holidays.now) minute in
         (result ≡ k) × (window.new ≡ choose k number window.old) }
 {
-    let election = Date {
-        year: year,
-        month: month,
-        day: day,
-    };
+    let election = Date { year, month, day };
     match schedule::window_at(election, holidays, minute) {
-        Minute::Refused(k) => k,
-        Minute::Window(number) => {
-            *window = number;
+        Ok(phase) => {
+            *window = phase.map_or(0, Phase::number);
             0
         }
+        Err(rule) => rule.number(),
     }
 }

@@ -7,8 +7,7 @@ use Prim.Native.Nat.{ℕ, zero, suc, ◌+◌, ◌-◌, ◌<◌}
 use native.Mathlib.Nat.{le_refl, le_of_lt}
 use native.Mathlib.Omega.{arith}
 use lib.ListN.{length}
-use Rattle.laws.specs.declared.Found.{Found}
-use Rattle.laws.specs.declared.Found.TheVariants.{Nothing, Fault}
+use Rattle.laws.specs.Faults.{Found, Nothing, Fault}
 use Rattle.laws.specs.Tests.{equal, below, at_most, ◌or◌, ◌implies◌, never}
 use Rattle.laws.specs.Faults.{rule, kept, located, ◌then◌, first, number_of, nothing_fault, then_go, then_stop}
 use Rattle.protocol.specs.declared.Form.TheVariants.{Unnumbered, Numbered}

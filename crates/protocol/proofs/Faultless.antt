@@ -6,8 +6,7 @@ use mathlib.Core.List.{List, []}
 use Prim.Native.Nat.{ℕ, zero, suc, ◌≤◌, ◌<◌}
 use native.Mathlib.Omega.{arith}
 use lib.ListN.{length}
-use Rattle.laws.specs.declared.Found.{Found}
-use Rattle.laws.specs.declared.Found.TheVariants.{Nothing}
+use Rattle.laws.specs.Faults.{Found, Nothing}
 use Rattle.laws.specs.Faults.{number_of, rules, Numbered, numbered}
 use Rattle.laws.specs.Masks.{bit}
 use Rattle.protocol.specs.declared.Parameters.{Parameters}

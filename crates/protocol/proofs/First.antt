@@ -6,8 +6,7 @@ use mathlib.Core.List.{List, [], ◌∷◌, ◌++◌}
 use Prim.Native.Nat.{ℕ, zero, suc, ◌≤◌, ◌<◌}
 use native.Mathlib.Omega.{arith}
 use lib.ListN.{length}
-use Rattle.laws.specs.declared.Found.{Found}
-use Rattle.laws.specs.declared.Found.TheVariants.{Nothing, Fault}
+use Rattle.laws.specs.Faults.{Found, Nothing, Fault}
 use Rattle.laws.specs.Tests.{choose, equal, at_most, never, equal_iff, unequal_iff, at_most_iff, at_most_fails, is_at_most, not_at_most}
 use Rattle.laws.specs.Faults.{rule, kept, located, ◌then◌, first, number_of, nothing_fault, rule_kept, located_nothing, located_at, then_nothing, then_go, then_stop, then_end, rule_stop}
 use Rattle.protocol.specs.declared.Parameters.{Parameters}

@@ -8,7 +8,7 @@ use mathlib.Core.List.{List, [], ◌∷◌}
 use Prim.Native.Nat.{ℕ, ◌+◌, ◌*◌, ◌<◌}
 use native.Mathlib.Omega.{arith}
 use lib.ListN.{length, take}
-use Rattle.laws.specs.declared.Found.TheVariants.{Fault}
+use Rattle.laws.specs.Faults.{Fault}
 use Rattle.laws.specs.Bytes.{number}
 use Rattle.laws.specs.Tests.{is_below, is_equal, not_equal}
 use Rattle.laws.specs.Faults.{located, number_of, nothing_fault, rule_go, rule_stop, located_at, then_stop}

@@ -8,7 +8,7 @@ use Prim.Native.Nat.{ℕ, ◌+◌, ◌*◌, ◌≤◌, ◌<◌}
 use native.Mathlib.Nat.{mul-le-mul}
 use native.Mathlib.Omega.{arith}
 use lib.ListN.{length}
-use Rattle.laws.specs.declared.Found.TheVariants.{Fault}
+use Rattle.laws.specs.Faults.{Fault}
 use Rattle.laws.specs.Tests.{is_equal, is_below, is_at_most, not_at_most, and_fails}
 use Rattle.laws.specs.Faults.{rule, kept, rules, located, ◌then◌, number_of, nothing_fault, rule_go, rule_stop, located_at, then_stop}
 use Rattle.protocol.specs.declared.Parameters.{Parameters}

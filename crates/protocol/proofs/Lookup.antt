@@ -10,8 +10,7 @@ use native.Mathlib.Decide.{ℕ_discrete}
 use native.Mathlib.Omega.{arith}
 use lib.ListN.{length, get_or, take, length-append}
 use lib.Seq.{get_or-take, length-take-le, take-take, take-append-le}
-use Rattle.laws.specs.declared.Found.{Found}
-use Rattle.laws.specs.declared.Found.TheVariants.{Nothing, Fault}
+use Rattle.laws.specs.Faults.{Found, Nothing, Fault}
 use Rattle.laws.specs.Search.{last_or}
 use Rattle.laws.specs.Bytes.{number, number_same}
 use Rattle.laws.specs.Chunks.{piece, piece_same}

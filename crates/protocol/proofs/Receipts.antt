@@ -16,8 +16,7 @@ use Rattle.laws.specs.Faults.{number_of, ◌then◌, rule_kept, rules, Numbered,
 use Rattle.laws.specs.Bytes.{number, bytes, length_bytes, number_left, number_bytes}
 use Rattle.laws.specs.Chunks.{piece}
 use Rattle.laws.specs.At.{At, at_left, at_whole, at_move, at_right, at_self}
-use Rattle.laws.specs.declared.Found.{Found}
-use Rattle.laws.specs.declared.Found.TheVariants.{Nothing}
+use Rattle.laws.specs.Faults.{Found, Nothing}
 use Rattle.sha3.specs.Sha3.{sha3_224}
 use Rattle.sha3.proofs.Digest.{sha3_224_length}
 use Rattle.protocol.specs.declared.Parameters.{Parameters}

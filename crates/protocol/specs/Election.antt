@@ -1,6 +1,7 @@
 -- Document 01, "Servers' writing": the three calls as one election. "mask or sides are given with them, or drawn from these dice and the
 -- earlier parts as lent"; "Parts written from the same inputs and mask, any draw made on the parts written before, form one record".
-use Rattle.std.specs.Prelude.{Bool, true, false, List, ◌++◌, ℕ, length}
+use Rattle.std.specs.Prelude.{Bool, true, false, List, ◌++◌, ℕ, length, Option, Some, None}
+use denote.Ref.{Bor}
 use Rattle.laws.specs.Tests.{equal, ◌and◌}
 use Rattle.protocol.specs.declared.Parameters.{Parameters}
 use Rattle.protocol.specs.Layout.{record_length, part_one_length, part_two_length, part_three_length}
@@ -18,6 +19,15 @@ pub data Choice (A : Type 0) : Type 0 where
 unfoldable pub choice_of : {A : Type 0} → Bool → A → Choice A
 choice_of true x = chosen x
 choice_of false x = drawn
+
+-- .. and as code lends it: a mask, and sides
+abbrev pub choice_in : {A : Type 0} → Option A → Choice A
+choice_in (Some x) = chosen x
+choice_in None = drawn
+
+abbrev pub sides_lent : Option (Bor (List ℕ)) → Choice (List ℕ)
+sides_lent (Some sides) = chosen sides.now
+sides_lent None = drawn
 
 -- tests of a mask and of sides that are given; what is drawn needs none
 unfoldable pub mask_in_shape : Parameters → Choice ℕ → Bool

@@ -1,7 +1,6 @@
 -- Document 01, "What is refused": "The judge goes command by command; the first faulty one decides."
 use Rattle.std.specs.Prelude.{Bool, true, false, List, [], ℕ, length}
-use Rattle.laws.specs.declared.Found.{Found}
-use Rattle.laws.specs.declared.Found.TheVariants.{Nothing}
+use Rattle.laws.specs.Faults.{Found, Nothing}
 use Rattle.laws.specs.Tests.{at_most, choose}
 use Rattle.laws.specs.Faults.{rule, kept, located, ◌then◌, first, number_of}
 use Rattle.laws.specs.Masks.{bit}

@@ -1,6 +1,11 @@
 // The types that code and definitions share. The definitions of document 01 are in specs/, what they mean together in proofs/.
 #![tactic(auto)]
 
+ghost use Rattle.std.specs.Prelude.{◌≡◌, ◌≤◌};
+ghost use Rattle.protocol.specs.Answers.{rule_number};
+
+use std::marker::Model;
+
 // The limit on the number of ballots, and the length of a row of marks.
 pub const MOST_BALLOTS: usize = 4096;
 
@@ -55,39 +60,72 @@ pub enum Place {
     InEntry(usize, usize, usize),
 }
 
-// The answer of a judge: accepted, or the number of the first rule broken.
+// The rules, by the order of their numbers, 1 to 22.
 #[derive(Clone, Copy)]
-pub enum Verdict {
-    Accepted,
-    Refused(u32),
+pub enum Rule {
+    CutShort = 1,
+    Command,
+    Limits,
+    Operand,
+    Id,
+    Dice,
+    MaskShape,
+    MaskDrawn,
+    Link,
+    Number,
+    Side,
+    SideDrawn,
+    Opening,
+    Halves,
+    VoteOrder,
+    OpenedList,
+    BytesAfter,
+    Length,
+    Permutation,
+    Candidates,
+    CopiedBallot,
+    Day,
 }
 
-// The answer of a writer: its outputs are written, or the number of the rule that its inputs break.
-#[derive(Clone, Copy)]
-pub enum Written {
-    Done,
-    Refused(u32),
+impl Rule {
+    // Its number.
+    pub fn number(self) -> u32
+        ensures { (result ≡ rule_number self) × ((1 ≤ result) × (result ≤ 22)) }
+    {
+        self as u32
+    }
 }
 
-// The answer of the receipt check.
+// The first broken rule of a record, and the place where its command starts.
+#[derive(Clone, Copy)]
+pub struct Fault {
+    pub rule: Rule,
+    pub at: usize,
+}
+
+// The answer of the receipt check, where nothing is refused.
 #[derive(Clone, Copy)]
 pub enum Receipt {
     AsPrinted,
     Otherwise,
     NotPosted,
-    Refused(u32),
 }
 
-// The answer of the tally: how many pairs of vote and count it wrote.
-#[derive(Clone, Copy)]
-pub enum Tally {
-    Pairs(usize),
-    Refused(u32),
+// What the servers are given, as it is lent.
+#[derive(Drop)]
+pub struct Inputs<'a> {
+    pub parameters: Parameters,
+    pub ids: &'a [u32],
+    pub votes: &'a [u32],
+    pub numbers: &'a [u32],
+    pub permutations: &'a [u16],
+    pub keys: &'a [u8],
 }
 
-// The answer of the draw of a mask.
-#[derive(Clone, Copy)]
-pub enum Draw {
-    Mask(u32),
-    Refused(u32),
+impl<'a> Model for Inputs<'a> {
+    ghost use Rattle.protocol.specs.Inputs.{Slices, given};
+
+    ghost Value = { Slices };
+
+    ghost view = { λ s. given s.parameters s.ids.now s.votes.now s.numbers.now s.permutations.now s.keys.now };
 }

@@ -92,19 +92,20 @@ module _ (p : Parameters) (r : List ℕ) (drawn : Bool) {at : ℕ} (due : Due) (
     unknown h = not_due_lem (no_command p due h)
 
     module _ {d : Due} (is : due ≡ d) (byte : item r at ≡ code p d) where
-      pub cut : length r < at + width p d → 1 ≡ fault p r drawn due
+      pub cut : {x : ℕ} → x ≡ 1 → length r < at + width p d → x ≡ fault p r drawn due
       unfolding fault_with
-      cut h =
-          rule_go _ _ _ (is_below (omega arith))
+      cut e h =
+          e
+          ∙ rule_go _ _ _ (is_below (omega arith))
           (rule_go _ _ _ (is_equal (ap (item r) (sym place) ∙ byte ∙ ap (code p) (sym is)))
           (rule_stop _ _ _ (not_at_most (omega (arith, place, ap (width p) is)))))
 
-      pub whole : {x : ℕ} → at + width p d ≤ length r → x ≡ rules p r drawn d → x ≡ fault p r drawn due
+      pub whole : {x : ℕ} {q : List ℕ} → q ≡ r → at + width p d ≤ length q → x ≡ rules p q drawn d → x ≡ fault p r drawn due
       unfolding fault_with
-      whole h e =
+      whole {q = q} same h e =
           rule_go _ _ _ (is_below (omega arith))
           (rule_go _ _ _ (is_equal (ap (item r) (sym place) ∙ byte ∙ ap (code p) (sym is)))
-          (rule_go _ _ _ (is_at_most (omega (arith, place, ap (width p) is))) (e ∙ ap (rules p r drawn) (sym is))))
+          (rule_go _ _ _ (is_at_most (omega (arith, place, ap (width p) is, ap length same))) (e ∙ ap (λ (q : List ℕ). rules p q drawn d) same ∙ ap (rules p r drawn) (sym is))))
 
 -- ---- the first command, which goes by a form whose byte is that of the record's own
 
@@ -126,6 +127,6 @@ module _ (p : Parameters) (r : List ℕ) {at : ℕ} (told : (at ≡ 0) × (first
   unfolding first_code number_width
   numbered_width e = code_width p.form (Numbered 0) (told.1 ∙ code_numbered r (at_start e))
 
-  pub first_whole : at + first_width p ≤ length r → first_width (parameters_of r) ≤ length r
+  pub first_whole : {q : List ℕ} → q ≡ r → at + first_width p ≤ length q → first_width (parameters_of q) ≤ length q
   unfolding parameters_of
-  first_whole h = omega (arith, told.0, h, code_width p.form (form_of r) told.1)
+  first_whole same h = rw same (omega (arith, told.0, ap length same, h, code_width p.form (form_of r) told.1))

@@ -29,6 +29,13 @@ pub limits_known : (p : Parameters) → in_limits p ≡ true → Few p × (0 < p
 unfolding in_limits modulus_in_limits ballots_in_limits lists_in_limits
 limits_known p e = let h = simp rules at e in (limits_few p e, omega (arith, h.0.0))
 
+-- ---- a row of tests as code makes them, one joined to those before it
+
+pub and_assoc : (a b c : Bool) → ((a and b) and c) ≡ (a and (b and c))
+unfolding ◌and◌
+and_assoc true b c = refl
+and_assoc false b c = refl
+
 -- ---- lengths as code compares them
 
 pub long : (a : ℕ) {b c : ℕ} → b ≡ c → eqb a b ≡ equal a c
@@ -49,8 +56,7 @@ lengths_are s e = let h = simp rules at e in (h.0, h.1.1.1.0)
 -- what rule 21 asks of the slices that have passed the other tests
 pub before_copies : (s : Slices) → Few s.parameters → 0 < s.parameters.modulus → due_lengths s ≡ true
     → (all_below s.parameters.modulus s.votes and all_below s.parameters.modulus s.numbers) ≡ true
-    → Votes s.parameters s.votes
-    × (Numbers s.parameters s.numbers × ((length s.ids ≡ s.parameters.ballots) × (192 * s.parameters.ballots ≤ length s.keys)))
+    → Votes s × (Numbers s × ((length s.ids ≡ s.parameters.ballots) × (192 * s.parameters.ballots ≤ length s.keys)))
 unfolding due_lengths
 before_copies s few positive e small =
     let h = simp rules at e in

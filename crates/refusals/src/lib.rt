@@ -1,22 +1,22 @@
-// What each of the writers refuses: the number of the first rule that its inputs, or the lengths of what it is lent, break; 0 where none
-// is broken. Limits are tested first, 3, then lengths, 18, then the rest in rising number.
+// What each of the writers refuses: the first rule that its inputs, or the lengths of what it is lent, break. Limits are tested first, then
+// lengths, then the rest in the order of the rules.
 #![tactic(auto)]
 
 mod original;
 
 ghost use Rattle.std.specs.Prelude.{◌≡◌, ◌*◌, ◌<◌, length};
-ghost use Rattle.laws.specs.Tests.{◌and◌};
 ghost use Rattle.laws.specs.Faults.{rule};
+ghost use Rattle.protocol.specs.Answers.{number_in};
 ghost use Rattle.protocol.specs.Layout.{part_two_length, part_three_length};
-ghost use Rattle.protocol.specs.Inputs.{given};
 ghost use Rattle.protocol.specs.Refusals.{due_lengths, part_one_refusal, part_two_refusal, part_two_drawn_refusal};
 ghost use Rattle.protocol.specs.Refusals.{part_three_refusal, part_three_drawn_refusal};
 ghost use Rattle.protocol.specs.Results.{draw_refusal};
-ghost use Rattle.protocol.specs.Election.{choice_of, mask_in_shape, sides_due, election_refusal};
+ghost use Rattle.protocol.specs.Election.{mask_in_shape, sides_due, election_refusal};
 ghost use Rattle.layout.specs.Bounds.{Few};
+ghost use Rattle.protocol.specs.Election.{choice_in, sides_lent};
 ghost use Rattle.refusals.specs.Contents.{rising, binary, binary_where, permutations_in, contents_refusal};
 
-use protocol::Parameters;
+use protocol::{Inputs, Parameters, Rule};
 
 // ---- tests of one slice
 
@@ -24,28 +24,14 @@ use protocol::Parameters;
 fn ids_rise(ids: &[u32]) -> bool
     ensures { result ≡ rising ids.now }
 {
-    let mut i: usize = 1;
-    while i < ids.len() {
-        if ids[i] <= ids[i - 1] {
-            return false;
-        }
-        i += 1;
-    }
-    true
+    ids.is_sorted_by(|before, id| *before < *id)
 }
 
 // Whether every side is 0 or 1.
 fn binary_sides(sides: &[u8]) -> bool
     ensures { result ≡ binary sides.now }
 {
-    let mut i: usize = 0;
-    while i < sides.len() {
-        if 1 < sides[i] {
-            return false;
-        }
-        i += 1;
-    }
-    true
+    sides.iter().all(|side| *side <= 1)
 }
 
 // Whether all three permutations of every list are permutations.
@@ -54,14 +40,12 @@ fn all_permutations(p: Parameters, permutations: &[u16]) -> bool
     ensures { result ≡ permutations_in p permutations.now }
 {
     let rows = 2 * protocol::ENTRY_PERMUTATIONS * p.compared;
-    let mut c: usize = 0;
-    while c < rows {
+    // not `chunks_exact(..).all(..)`: which numbers its pieces have was not proved
+    for c in 0..rows {
         let from = c * p.ballots;
-        let to = from + p.ballots;
-        if !limits::is_permutation(p.ballots, &permutations[from..to]) {
+        if !limits::is_permutation(p.ballots, &permutations[from..from + p.ballots]) {
             return false;
         }
-        c += 1;
     }
     true
 }
@@ -69,91 +53,66 @@ fn all_permutations(p: Parameters, permutations: &[u16]) -> bool
 // ---- tests of every part
 
 // Whether the slices have their due lengths.
-fn due_lengths(
-    p: Parameters,
-    ids: &[u32],
-    votes: &[u32],
-    numbers: &[u32],
-    permutations: &[u16],
-    keys: &[u8],
-) -> bool
-    requires { Few p }
-    ensures { let s = given p ids.now votes.now numbers.now permutations.now keys.now in
-        result ≡ due_lengths s }
+fn due_lengths(s: &Inputs) -> bool
+    requires { Few s.now.parameters }
+    ensures { result ≡ due_lengths s.now }
 {
+    let p = s.parameters;
     let entries = 2 * (p.compared * p.ballots);
-    if ids.len() != p.ballots {
-        return false;
-    }
-    if votes.len() != p.ballots {
-        return false;
-    }
-    if numbers.len() != protocol::BALLOT_NUMBERS * p.ballots + protocol::ENTRY_NUMBERS * entries {
-        return false;
-    }
-    if permutations.len() != protocol::ENTRY_PERMUTATIONS * entries {
-        return false;
-    }
-    keys.len() == protocol::KEYS_WIDTH * (p.ballots + entries)
+    s.ids.len() == p.ballots
+        && s.votes.len() == p.ballots
+        && s.numbers.len()
+            == protocol::BALLOT_NUMBERS * p.ballots + protocol::ENTRY_NUMBERS * entries
+        && s.permutations.len() == protocol::ENTRY_PERMUTATIONS * entries
+        && s.keys.len() == protocol::KEYS_WIDTH * (p.ballots + entries)
 }
 
-// Lengths and contents, within the limits. Dice, mask and sides are tested by the caller, who hands the answers over.
-fn refuse(
-    p: Parameters,
-    ids: &[u32],
-    votes: &[u32],
-    numbers: &[u32],
-    permutations: &[u16],
-    keys: &[u8],
+// What the caller has tested of dice, mask and sides.
+#[derive(Clone, Copy)]
+struct Passed {
     fair: bool,
     shape: bool,
     binary: bool,
-) -> u32
-    requires { Few p × (0 < p.modulus) }
-    ensures { let s = given p ids.now votes.now numbers.now permutations.now keys.now in
-        result ≡ rule 18 (due_lengths s) (contents_refusal s fair shape binary) }
+}
+
+// Lengths and contents, within the limits.
+fn refuse(s: &Inputs, passed: Passed) -> Result<(), Rule>
+    requires { Few s.now.parameters × (0 < s.now.parameters.modulus) }
+    ensures { number_in result
+        ≡ rule 18 (due_lengths s.now) (contents_refusal s.now passed.fair passed.shape passed.binary) }
 {
-    if !due_lengths(p, ids, votes, numbers, permutations, keys) {
-        return 18;
+    let p = s.parameters;
+    if !due_lengths(s) {
+        return Err(Rule::Length);
     }
-    if !ids_rise(ids) {
-        return 5;
+    if !ids_rise(s.ids) {
+        return Err(Rule::Id);
     }
-    if !fair {
-        return 6;
+    if !passed.fair {
+        return Err(Rule::Dice);
     }
-    if !shape {
-        return 7;
+    if !passed.shape {
+        return Err(Rule::MaskShape);
     }
-    if !limits::all_below(p.modulus, votes) {
-        return 10;
+    if !limits::all_below(p.modulus, s.votes) {
+        return Err(Rule::Number);
     }
-    if !limits::all_below(p.modulus, numbers) {
-        return 10;
+    if !limits::all_below(p.modulus, s.numbers) {
+        return Err(Rule::Number);
     }
-    if !binary {
-        return 11;
+    if !passed.binary {
+        return Err(Rule::Side);
     }
-    if !all_permutations(p, permutations) {
-        return 19;
+    if !all_permutations(p, s.permutations) {
+        return Err(Rule::Permutation);
     }
-    if !original::all_original(p, ids, votes, numbers, keys) {
-        return 21;
+    if !original::all_original(s) {
+        return Err(Rule::CopiedBallot);
     }
-    0
+    Ok(())
 }
 
 // ---- tests of what only some parts are lent
-
-// Whether both of two tests hold.
-fn both(one: bool, other: bool) -> bool
-    ensures { result ≡ (one and other) }
-{
-    if !one {
-        return false;
-    }
-    other
-}
 
 // The lengths of parts two and three; that of part one is where the first dice stand.
 fn part_two_length(p: Parameters) -> usize
@@ -171,280 +130,215 @@ fn part_three_length(p: Parameters) -> usize
 }
 
 // A mask, where it is given, has its shape.
-fn mask_in_shape(p: Parameters, mask_given: bool, mask: u32) -> bool
+fn mask_in_shape(p: Parameters, mask: Option<u32>) -> bool
     requires { Few p }
-    ensures { result ≡ mask_in_shape p (choice_of mask_given mask) }
+    ensures { result ≡ mask_in_shape p (choice_in mask) }
 {
-    if !mask_given {
-        return true;
+    match mask {
+        Some(mask) => limits::right_shape(p.compared, mask),
+        None => true, // a mask that is drawn has it
     }
-    limits::right_shape(p.compared, mask)
 }
 
 // Sides, where they are given, are one for each ballot ..
-fn sides_due(p: Parameters, sides_given: bool, sides: &[u8]) -> bool
-    ensures { result ≡ sides_due p (choice_of sides_given sides.now) }
+fn sides_due(p: Parameters, sides: Option<&[u8]>) -> bool
+    ensures { result ≡ sides_due p (sides_lent sides.entry) }
 {
-    if !sides_given {
-        return true;
+    match sides {
+        Some(sides) => sides.len() == p.ballots,
+        None => true,
     }
-    sides.len() == p.ballots
 }
 
 // .. and 0 or 1 each.
-fn sides_binary(sides_given: bool, sides: &[u8]) -> bool
-    ensures { result ≡ binary_where (choice_of sides_given sides.now) }
+fn sides_binary(sides: Option<&[u8]>) -> bool
+    ensures { result ≡ binary_where (sides_lent sides.entry) }
 {
-    if !sides_given {
-        return true;
+    match sides {
+        Some(sides) => binary_sides(sides),
+        None => true,
     }
-    binary_sides(sides)
 }
 
 // ---- the parts
 
 // Part one.
-pub fn part_one(
-    p: Parameters,
-    ids: &[u32],
-    votes: &[u32],
-    numbers: &[u32],
-    permutations: &[u16],
-    keys: &[u8],
-    out_len: usize,
-) -> u32
-    ensures { let s = given p ids.now votes.now numbers.now permutations.now keys.now in
-        result ≡ part_one_refusal s out_len }
+pub fn part_one(s: &Inputs, out_len: usize) -> Result<(), Rule>
+    ensures { number_in result ≡ part_one_refusal s.now out_len }
 {
+    let p = s.parameters;
     if !limits::in_limits(p) {
-        return 3; // before any length is worked out from them
+        return Err(Rule::Limits); // before any length is worked out from them
     }
     if out_len != layout::at_first_dice(p) {
-        return 18;
+        return Err(Rule::Length);
     }
-    refuse(p, ids, votes, numbers, permutations, keys, true, true, true)
+    refuse(
+        s,
+        Passed {
+            fair: true,
+            shape: true,
+            binary: true,
+        },
+    )
 }
 
 // Part two, mask given.
-pub fn part_two(
-    p: Parameters,
-    ids: &[u32],
-    votes: &[u32],
-    numbers: &[u32],
-    permutations: &[u16],
-    keys: &[u8],
-    dice: &[u8],
-    mask: u32,
-    out_len: usize,
-) -> u32
-    ensures { let s = given p ids.now votes.now numbers.now permutations.now keys.now in
-        result ≡ part_two_refusal s dice.now mask out_len }
+pub fn part_two(s: &Inputs, dice: &[u8], mask: u32, out_len: usize) -> Result<(), Rule>
+    ensures { number_in result ≡ part_two_refusal s.now dice.now mask out_len }
 {
+    let p = s.parameters;
     if !limits::in_limits(p) {
-        return 3;
+        return Err(Rule::Limits);
     }
-    if !both(dice.len() == 30, out_len == part_two_length(p)) {
-        return 18;
+    let dice_due = dice.len() == 30;
+    if !dice_due || out_len != part_two_length(p) {
+        return Err(Rule::Length);
     }
-    let fair = limits::fair_dice(dice, 0);
-    let shape = limits::right_shape(p.compared, mask);
     refuse(
-        p,
-        ids,
-        votes,
-        numbers,
-        permutations,
-        keys,
-        fair,
-        shape,
-        true,
+        s,
+        Passed {
+            fair: limits::fair_dice(dice, 0),
+            shape: limits::right_shape(p.compared, mask),
+            binary: true,
+        },
     )
 }
 
 // Part two, mask drawn from the dice and part one as lent.
-pub fn part_two_drawn(
-    p: Parameters,
-    ids: &[u32],
-    votes: &[u32],
-    numbers: &[u32],
-    permutations: &[u16],
-    keys: &[u8],
-    dice: &[u8],
-    one_len: usize,
-    out_len: usize,
-) -> u32
-    ensures { let s = given p ids.now votes.now numbers.now permutations.now keys.now in
-        result ≡ part_two_drawn_refusal s dice.now one_len out_len }
+pub fn part_two_drawn(s: &Inputs, dice: &[u8], one_len: usize, out_len: usize) -> Result<(), Rule>
+    ensures { number_in result ≡ part_two_drawn_refusal s.now dice.now one_len out_len }
 {
+    let p = s.parameters;
     if !limits::in_limits(p) {
-        return 3;
+        return Err(Rule::Limits);
     }
-    let one = one_len == layout::at_first_dice(p);
-    let two = out_len == part_two_length(p);
-    if !both(dice.len() == 30, both(one, two)) {
-        return 18;
+    let dice_due = dice.len() == 30;
+    if !dice_due || one_len != layout::at_first_dice(p) || out_len != part_two_length(p) {
+        return Err(Rule::Length);
     }
-    let fair = limits::fair_dice(dice, 0);
-    refuse(p, ids, votes, numbers, permutations, keys, fair, true, true)
+    refuse(
+        s,
+        Passed {
+            fair: limits::fair_dice(dice, 0),
+            shape: true,
+            binary: true,
+        },
+    )
 }
 
 // Part three, sides given.
 pub fn part_three(
-    p: Parameters,
-    ids: &[u32],
-    votes: &[u32],
-    numbers: &[u32],
-    permutations: &[u16],
-    keys: &[u8],
+    s: &Inputs,
     dice: &[u8],
     mask: u32,
     sides: &[u8],
     out_len: usize,
-) -> u32
-    ensures { let s = given p ids.now votes.now numbers.now permutations.now keys.now in
-        result ≡ part_three_refusal s dice.now mask sides.now out_len }
+) -> Result<(), Rule>
+    ensures { number_in result ≡ part_three_refusal s.now dice.now mask sides.now out_len }
 {
+    let p = s.parameters;
     if !limits::in_limits(p) {
-        return 3;
+        return Err(Rule::Limits);
     }
-    let parts = both(sides.len() == p.ballots, out_len == part_three_length(p));
-    if !both(dice.len() == 30, parts) {
-        return 18;
+    let dice_due = dice.len() == 30;
+    if !dice_due || sides.len() != p.ballots || out_len != part_three_length(p) {
+        return Err(Rule::Length);
     }
-    let fair = limits::fair_dice(dice, 0);
-    let shape = limits::right_shape(p.compared, mask);
-    let binary = binary_sides(sides);
     refuse(
-        p,
-        ids,
-        votes,
-        numbers,
-        permutations,
-        keys,
-        fair,
-        shape,
-        binary,
+        s,
+        Passed {
+            fair: limits::fair_dice(dice, 0),
+            shape: limits::right_shape(p.compared, mask),
+            binary: binary_sides(sides),
+        },
     )
 }
 
 // Part three, sides drawn from the dice and parts one and two as lent.
 pub fn part_three_drawn(
-    p: Parameters,
-    ids: &[u32],
-    votes: &[u32],
-    numbers: &[u32],
-    permutations: &[u16],
-    keys: &[u8],
+    s: &Inputs,
     dice: &[u8],
     mask: u32,
     one_len: usize,
     two_len: usize,
     out_len: usize,
-) -> u32
-    ensures { let s = given p ids.now votes.now numbers.now permutations.now keys.now in
-        result ≡ part_three_drawn_refusal s dice.now mask one_len two_len out_len }
+) -> Result<(), Rule>
+    ensures { number_in result ≡ part_three_drawn_refusal s.now dice.now mask one_len two_len out_len }
 {
+    let p = s.parameters;
     if !limits::in_limits(p) {
-        return 3;
+        return Err(Rule::Limits);
     }
-    let later = both(
-        two_len == part_two_length(p),
-        out_len == part_three_length(p),
-    );
-    let parts = both(one_len == layout::at_first_dice(p), later);
-    if !both(dice.len() == 30, parts) {
-        return 18;
+    let dice_due = dice.len() == 30;
+    let one = layout::at_first_dice(p);
+    let two = part_two_length(p);
+    if !dice_due || one_len != one || two_len != two || out_len != part_three_length(p) {
+        return Err(Rule::Length);
     }
-    let fair = limits::fair_dice(dice, 0);
-    let shape = limits::right_shape(p.compared, mask);
     refuse(
-        p,
-        ids,
-        votes,
-        numbers,
-        permutations,
-        keys,
-        fair,
-        shape,
-        true,
+        s,
+        Passed {
+            fair: limits::fair_dice(dice, 0),
+            shape: limits::right_shape(p.compared, mask),
+            binary: true,
+        },
     )
 }
 
 // The draw of a mask alone.
-pub fn draw(p: Parameters, dice: &[u8], one_len: usize) -> u32
-    ensures { result ≡ draw_refusal p dice.now one_len }
+pub fn draw(p: Parameters, dice: &[u8], one_len: usize) -> Result<(), Rule>
+    ensures { number_in result ≡ draw_refusal p dice.now one_len }
 {
     if !limits::in_limits(p) {
-        return 3;
+        return Err(Rule::Limits);
     }
-    if !both(dice.len() == 30, one_len == layout::at_first_dice(p)) {
-        return 18;
+    let dice_due = dice.len() == 30;
+    if !dice_due || one_len != layout::at_first_dice(p) {
+        return Err(Rule::Length);
     }
-    if limits::fair_dice(dice, 0) {
-        return 0;
-    }
-    6
+    let dice_fair = limits::fair_dice(dice, 0);
+    if dice_fair { Ok(()) } else { Err(Rule::Dice) }
 }
 
-// All three parts and the record that they make. Mask and sides are each given or drawn: where a switch says drawn, what is lent in their
-// place is not looked at.
+// All three parts and the record that they make. Mask and sides are each given, or drawn where there are none.
 pub fn election(
-    p: Parameters,
-    ids: &[u32],
-    votes: &[u32],
-    numbers: &[u32],
-    permutations: &[u16],
-    keys: &[u8],
-    mask_given: bool,
-    mask: u32,
+    s: &Inputs,
+    mask: Option<u32>,
     first_dice: &[u8],
-    sides_given: bool,
-    sides: &[u8],
+    sides: Option<&[u8]>,
     second_dice: &[u8],
     one_len: usize,
     two_len: usize,
     three_len: usize,
     joined_len: usize,
-) -> u32
-    ensures { let s = given p ids.now votes.now numbers.now permutations.now keys.now in
-        let byMask = choice_of mask_given mask in
-        let bySides = choice_of sides_given sides.now in
-        let k = election_refusal s byMask first_dice.now bySides second_dice.now in
-        result ≡ k one_len two_len three_len joined_len }
+) -> Result<(), Rule>
+    ensures { let k = election_refusal s.now (choice_in mask) first_dice.now (sides_lent sides.entry) second_dice.now in
+        number_in result ≡ k one_len two_len three_len joined_len }
 {
+    let p = s.parameters;
     if !limits::in_limits(p) {
-        return 3;
+        return Err(Rule::Limits);
     }
-    let last = both(
-        three_len == part_three_length(p),
-        joined_len == layout::at_end(p) + 1,
-    );
-    let parts = both(
-        one_len == layout::at_first_dice(p),
-        both(two_len == part_two_length(p), last),
-    );
-    let given = both(
-        second_dice.len() == 30,
-        both(sides_due(p, sides_given, sides), parts),
-    );
-    if !both(first_dice.len() == 30, given) {
-        return 18;
+    let first_due = first_dice.len() == 30;
+    let second_due = second_dice.len() == 30;
+    if !first_due
+        || !second_due
+        || !sides_due(p, sides)
+        || one_len != layout::at_first_dice(p)
+        || two_len != part_two_length(p)
+        || three_len != part_three_length(p)
+        || joined_len != layout::at_end(p) + 1
+    {
+        return Err(Rule::Length);
     }
-    let fair = both(
-        limits::fair_dice(first_dice, 0),
-        limits::fair_dice(second_dice, 0),
-    );
-    let shape = mask_in_shape(p, mask_given, mask);
-    let binary = sides_binary(sides_given, sides);
+    let fair = limits::fair_dice(first_dice, 0) && limits::fair_dice(second_dice, 0);
     refuse(
-        p,
-        ids,
-        votes,
-        numbers,
-        permutations,
-        keys,
-        fair,
-        shape,
-        binary,
+        s,
+        Passed {
+            fair,
+            shape: mask_in_shape(p, mask),
+            binary: sides_binary(sides),
+        },
     )
 }

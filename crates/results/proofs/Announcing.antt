@@ -6,21 +6,22 @@ use mathlib.Core.List.{List, []}
 use Prim.Native.Nat.{ℕ, ◌+◌, ◌*◌}
 use native.Mathlib.Omega.{arith}
 use lib.ListN.{length}
-use Rattle.laws.specs.declared.Found.TheVariants.{Nothing, Fault}
+use Rattle.std.specs.Prelude.{Ok, Err, ⊤}
+use Rattle.laws.specs.Faults.{Nothing, Fault}
 use Rattle.laws.specs.Bytes.{number}
 use Rattle.laws.specs.Tests.{equal, is_equal, not_equal, choose_clear, choose_set}
 use Rattle.laws.specs.Tables.{tabulate, same_tabulate}
-use Rattle.laws.specs.Faults.{rule, number_of, nothing_fault, rule_go, rule_stop}
+use Rattle.laws.specs.Faults.{rule, number_of, rule_go, rule_stop}
 use Rattle.protocol.specs.declared.Parameters.{Parameters}
-use Rattle.protocol.specs.declared.Written.TheVariants.{Done, Refused}
-use Rattle.protocol.specs.Answers.{answer_of, written_answer}
+use Rattle.protocol.specs.declared.Rule.{Rule}
+use Rattle.protocol.specs.declared.Rule.TheVariants.{Length}
+use Rattle.protocol.specs.Answers.{answer_of, rule_number, written_answer}
 use Rattle.protocol.specs.Layout.{at_vote}
 use Rattle.protocol.specs.Record.{parameters_of, vote_of}
 use Rattle.protocol.specs.Refusals.{afterwards}
-use Rattle.protocol.specs.Judging.{first_fault, judged}
+use Rattle.protocol.specs.Judging.{first_fault}
 use Rattle.protocol.specs.Results.{announced_votes, announced_refusal}
-use Rattle.protocol.proofs.Answered.{unwritten, wrote}
-use Rattle.protocol.proofs.Faultless.{judged_nothing}
+use Rattle.protocol.proofs.Answered.{rule_positive, unwritten, wrote}
 
 module _ (r : List ℕ) where
   -- the votes as they are read, one behind the other
@@ -41,31 +42,27 @@ module _ (r : List ℕ) where
     accepted_number n e =
         sym (choose_clear (number_of (first_fault false r)) (rule 18 (equal n (parameters_of r).ballots) 0) (number_of (first_fault false r)) (ap number_of e))
 
-    pub votes_refused : (k : ℕ) {place : ℕ} → first_fault false r ≡ Fault k place
-        → (written_answer (Refused k) ≡ answer_of (announced_refusal r (length out)) [])
+    pub votes_refused : (broken : Rule) {place : ℕ} → Fault (rule_number broken) place ≡ first_fault false r
+        → (written_answer (Err broken) ≡ answer_of (announced_refusal r (length out)) [])
         × (out ≡ afterwards (announced_refusal r (length out)) out (announced_votes r))
-    unfolding announced_refusal number_of judged answer_of
-    votes_refused k e =
-        let w : number_of (first_fault false r) ≡ k = ap number_of e in
-        let ne : k ≢ 0 = λ z. nothing_fault ((judged_nothing false r).0 (ap (λ (x : ℕ). answer_of x []) (w ∙ z))) e in
-        unwritten k _ out (announced_votes r)
-        (sym w ∙ sym (choose_set (number_of (first_fault false r)) (rule 18 (equal (length out) (parameters_of r).ballots) 0) (number_of (first_fault false r)) (λ z. ne (sym w ∙ z))))
-        ne
+    unfolding announced_refusal number_of
+    votes_refused broken e =
+        let w : rule_number broken ≡ number_of (first_fault false r) = ap number_of e in
+        unwritten broken _ out (announced_votes r)
+        (w ∙ sym (choose_set (number_of (first_fault false r)) (rule 18 (equal (length out) (parameters_of r).ballots) 0) (number_of (first_fault false r)) (λ z. rule_positive broken (w ∙ z))))
 
     pub votes_unfit : {p : Parameters} → first_fault false r ≡ Nothing → p ≡ parameters_of r → length out ≢ p.ballots
-        → (written_answer (Refused 18) ≡ answer_of (announced_refusal r (length out)) [])
+        → (written_answer (Err Length) ≡ answer_of (announced_refusal r (length out)) [])
         × (out ≡ afterwards (announced_refusal r (length out)) out (announced_votes r))
     votes_unfit e s ne =
-        unwritten 18 _ out (announced_votes r)
+        unwritten Length _ out (announced_votes r)
         (rule_stop 18 (equal (length out) (parameters_of r).ballots) 0 (not_equal (λ z. ne (z ∙ ap (λ (x : Parameters). x.ballots) (sym s)))) ∙ accepted_number (length out) e)
-        (λ z. omega arith)
 
-    pub votes_written : {p : Parameters} {after : List ℕ} → first_fault false r ≡ Nothing → p ≡ parameters_of r → length out ≡ p.ballots
+    pub votes_written : {u : ⊤} {p : Parameters} {after : List ℕ} → first_fault false r ≡ Nothing → p ≡ parameters_of r → length out ≡ p.ballots
         → after ≡ announced_votes r
-        → (written_answer Done ≡ answer_of (announced_refusal r (length out)) [])
+        → (written_answer (Ok u) ≡ answer_of (announced_refusal r (length out)) [])
         × (after ≡ afterwards (announced_refusal r (length out)) out (announced_votes r))
-    votes_written e s l h =
-        wrote 0 _ out _ (announced_votes r)
+    votes_written {u} e s l h =
+        wrote {u = u} _ out _ (announced_votes r)
         (rule_go 18 (equal (length out) (parameters_of r).ballots) 0 (is_equal (l ∙ ap (λ (x : Parameters). x.ballots) s)) refl ∙ accepted_number (length out) e)
-        refl
         h

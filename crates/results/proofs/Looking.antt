@@ -1,14 +1,13 @@
 -- Which answer of the lookup follows from what is found of the ballots up to the one at which it stops.
 use mathlib.Core.Path.{◌≡◌, refl, sym, ap, ◌∙◌}
 use mathlib.Core.Logic.{◌≢◌}
-use mathlib.Core.Bool.{Bool, true, false}
+use mathlib.Core.Bool.{true, false}
 use mathlib.Core.List.{List}
 use Prim.Native.Nat.{ℕ, suc, ◌≤◌, ◌<◌}
 use native.Mathlib.Numerals.{add-one}
 use native.Mathlib.Omega.{arith}
 use lib.ListN.{length}
-use Rattle.laws.specs.declared.Found.{Found}
-use Rattle.laws.specs.declared.Found.TheVariants.{Nothing, Fault}
+use Rattle.laws.specs.Faults.{Found, Nothing, Fault}
 use Rattle.laws.specs.Bytes.{number}
 use Rattle.laws.specs.Tests.{equal, pick, is_equal, not_equal}
 use Rattle.laws.specs.Faults.{first, number_of, nothing_fault, rule_go, rule_stop, then_go, then_stop, first_more, row_stop, Numbered, numbered}
@@ -53,17 +52,13 @@ module _ (p : Parameters) (r printed : List ℕ) where
       refused_is k _ _ (ap number_of s) (λ q. nothing_fault ((row_numbered read).nothing (sym (ap number_of s) ∙ q)) (sym s))
 
   -- a ballot that stands, with the id sought or a larger one
-  pub looked_stopped : (j : ℕ) {f : Found} {a : Answer} → j < p.ballots → first row j ≡ Nothing → Passed j → f ≡ row j → f ≡ Nothing → number printed 0 4 ≤ id_of p r j
-      → a ≡ pick (equal (id_of p r j) (number printed 0 4)) (done (receipt_at p r printed j)) (done not_posted) → a ≡ answered
+  pub looked_stopped : (j : ℕ) {a : List ℕ} → j < p.ballots → first row j ≡ Nothing → Passed j → row j ≡ Nothing → number printed 0 4 ≤ id_of p r j
+      → a ≡ pick (equal (id_of p r j) (number printed 0 4)) (receipt_at p r printed j) not_posted → done a ≡ answered
   unfolding ballot_faults receipt_among answer_of number_of
-  looked_stopped j l z h e w s t =
+  looked_stopped j l z h e s t =
       let read : ballots_read p r printed p.ballots ≡ suc j = reads_to p r printed p.ballots j l h s in
-      let clear : first row (suc j) ≡ Nothing = rw add-one at (first_more row j z (sym e ∙ w)) in
-      rw (read, clear) (t ∙ named (equal (id_of p r j) (number printed 0 4)))
-    where
-      named : (b : Bool) → pick b (done (receipt_at p r printed j)) (done not_posted) ≡ answer_of (number_of Nothing) (pick b (receipt_at p r printed j) (receipt_among p r printed j))
-      named true = refl
-      named false = ap done (sym (none_named j h))
+      let clear : first row (suc j) ≡ Nothing = rw add-one at (first_more row j z e) in
+      rw (read, clear) (ap done (t ∙ ap (pick (equal (id_of p r j) (number printed 0 4)) (receipt_at p r printed j)) (sym (none_named j h))))
 
   -- no ballot stops it
   pub looked_through : (j : ℕ) → j ≤ p.ballots → p.ballots ≤ j → first row j ≡ Nothing → Passed j → done not_posted ≡ answered

@@ -6,7 +6,7 @@ use Prim.Native.Nat.{ℕ, zero, suc, ◌≤◌, ◌<◌}
 use native.Mathlib.Nat.{zero-add}
 use native.Mathlib.Omega.{arith}
 use lib.ListN.{length, drop, length-append}
-use Rattle.laws.specs.declared.Found.TheVariants.{Nothing, Fault}
+use Rattle.laws.specs.Faults.{Nothing, Fault}
 use Rattle.laws.specs.Faults.{number_of, nothing_fault}
 use Rattle.laws.specs.Tests.{is_at_most, not_at_most}
 use Rattle.laws.specs.Writing.{put, Went}

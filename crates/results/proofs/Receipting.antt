@@ -5,8 +5,7 @@ use mathlib.Core.List.{List}
 use Prim.Native.Nat.{ℕ}
 use native.Mathlib.Omega.{arith}
 use lib.ListN.{length}
-use Rattle.laws.specs.declared.Found.{Found}
-use Rattle.laws.specs.declared.Found.TheVariants.{Nothing, Fault}
+use Rattle.laws.specs.Faults.{Found, Nothing, Fault}
 use Rattle.laws.specs.Tests.{equal, is_equal, not_equal}
 use Rattle.laws.specs.Faults.{number_of, nothing_fault, rule_go, rule_stop, Numbered, numbered}
 use Rattle.protocol.specs.declared.Parameters.{Parameters}

@@ -6,10 +6,10 @@ ghost use Rattle.protocol.specs.Terms.{item, most_ballots, decimal};
 ghost use Rattle.protocol.specs.Judging.{first_fault};
 ghost use Rattle.protocol.specs.Results.{announced_votes, election_line, tally_line, tally_lines};
 ghost use Rattle.results.specs.Pages.{election_most, line_most, LinesReady, LinesRoom, AnnouncedRoom};
+ghost use Rattle.laws.specs.Faults.{Nothing};
 
 use crate::tally::fill;
 use crate::votes::read_votes;
-use laws::Found;
 use protocol::{Form, MOST_BALLOTS, Parameters};
 
 // Writes the line of the election's number, in the form that has one, from a place on, and answers the next place.
@@ -45,10 +45,8 @@ fn put_lines(values: &[u32], counts: &[u64], pairs: usize, out: &mut [u8], at: u
         Went out.old at lines out.new result }
 {
     let mut next = at;
-    let mut i: usize = 0;
-    while i < pairs {
+    for i in 0..pairs {
         next = put_line(out, next, values[i], counts[i] as u32);
-        i += 1;
     }
     next
 }
@@ -100,7 +98,7 @@ fn counters() -> [u64; MOST_BALLOTS]
 
 // Writes a line for each distinct vote that an accepted record announces, rising, from a place on, and answers the next place.
 pub fn put_result(bytes: &[u8], out: &mut [u8], at: usize) -> usize
-    requires { (first_fault true bytes.now ≡ Found.Nothing) × (at + line_most * most_ballots ≤ length out.old) }
+    requires { (first_fault true bytes.now ≡ Nothing) × (at + line_most * most_ballots ≤ length out.old) }
     ensures { Went out.old at (tally_lines (announced_votes bytes.now)) out.new result }
 {
     let p = layout::parameters(bytes);

@@ -5,9 +5,9 @@ ghost use Rattle.protocol.specs.Refusals.{afterwards};
 ghost use Rattle.protocol.specs.Judging.{first_fault};
 ghost use Rattle.protocol.specs.Results.{announced_votes, announced_refusal};
 ghost use Rattle.results.specs.Ready.{VotesReady};
+ghost use Rattle.laws.specs.Faults.{Nothing};
 
-use laws::Found;
-use protocol::{Parameters, Written};
+use protocol::{Parameters, Rule};
 
 // Reads the announced votes of a record that stands into a slice of one number a ballot.
 pub fn read_votes(bytes: &[u8], p: Parameters, out: &mut [u32])
@@ -18,28 +18,28 @@ pub fn read_votes(bytes: &[u8], p: Parameters, out: &mut [u32])
 }
 
 // The announced votes of a record that is known to be accepted.
-fn write_votes(bytes: &[u8], out: &mut [u32]) -> Written
-    requires { first_fault false bytes.now ≡ Found.Nothing }
+fn write_votes(bytes: &[u8], out: &mut [u32]) -> Result<(), Rule>
+    requires { first_fault false bytes.now ≡ Nothing }
     ensures answer { written_answer result ≡ answer_of (announced_refusal bytes.now (length out.old)) [] }
     ensures output { let k = announced_refusal bytes.now (length out.old) in
         out.new ≡ afterwards k out.old (announced_votes bytes.now) }
 {
     let p = layout::parameters(bytes);
     if out.len() != p.ballots {
-        return Written::Refused(18);
+        return Err(Rule::Length);
     }
     read_votes(bytes, p, out);
-    Written::Done
+    Ok(())
 }
 
 // Entry: the votes that an accepted record announces, into a slice of one number a ballot.
-pub fn announced_votes(bytes: &[u8], out: &mut [u32]) -> Written
+pub fn announced_votes(bytes: &[u8], out: &mut [u32]) -> Result<(), Rule>
     ensures answer { written_answer result ≡ answer_of (announced_refusal bytes.now (length out.old)) [] }
     ensures output { let k = announced_refusal bytes.now (length out.old) in
         out.new ≡ afterwards k out.old (announced_votes bytes.now) }
 {
     match verifier::first_fault(bytes, false) {
-        Found::Fault(k, _) => Written::Refused(k),
-        Found::Nothing => write_votes(bytes, out),
+        Err(fault) => Err(fault.rule),
+        Ok(()) => write_votes(bytes, out),
     }
 }

@@ -1,5 +1,6 @@
 -- What a command's rules are told: what earlier commands have shown, and that the command is there and whole.
-use Rattle.std.specs.Prelude.{◌≡◌, Bool, true, List, ℕ, suc, ◌+◌, ◌≤◌, ◌<◌, length, take}
+use Rattle.std.specs.Prelude.{◌≡◌, Bool, true, List, [], Option, None, Some, ℕ, suc, ◌+◌, ◌≤◌, ◌<◌, length, take}
+use Rattle.std.specs.Borrow.{Bor}
 use Rattle.laws.specs.Marks.{Marks}
 use Rattle.laws.specs.Masks.{set_before}
 use Rattle.protocol.specs.declared.Parameters.{Parameters}
@@ -61,6 +62,12 @@ Known p r drawn text marks (ListHalf l j) = ListHalfKnown p r l j
 Known p r drawn text marks (Vote i) = Unit {0}
 Known p r drawn text marks (FullOpening l i) = FullKnown p r l i
 Known p r drawn text marks End = Unit {0}
+
+-- ---- the text, where it is lent
+
+abbrev pub lent : Option (Bor (List ℕ)) → List ℕ
+lent None = []
+lent (Some text) = text.now
 
 -- ---- in its place, where it may be cut short
 

@@ -1,5 +1,5 @@
 -- The cells and lines of a runoff's page: what stands in them, how long they are at most, and what room is left behind them.
-use mathlib.Core.Path.{◌≡◌, sym, ap}
+use mathlib.Core.Path.{◌≡◌, refl, sym, ap, ◌∙◌}
 use mathlib.Core.Logic.{◌≢◌}
 use mathlib.Core.Bool.{Bool, true, false}
 use mathlib.Core.List.{List, [], ◌∷◌, ◌++◌}
@@ -7,12 +7,15 @@ use Prim.Native.Nat.{ℕ, zero, suc, ◌+◌, ◌*◌, ◌≤◌}
 use native.Mathlib.Numerals.{add-one}
 use native.Mathlib.Omega.{arith}
 use lib.ListN.{length, length-append}
-use Rattle.laws.specs.Tests.{equal, ◌or◌, pick, choose, choose_clear, choose_set, is_equal, not_equal, or_go, or_stop}
+use Rattle.std.specs.Prelude.{Option, Some}
+use Rattle.laws.specs.Tests.{equal, ◌or◌, pick, choose, is_equal, not_equal, or_go}
 use Rattle.laws.specs.Chunks.{chunks}
 use Rattle.laws.specs.Writing.{Went, go_same}
 use Rattle.protocol.specs.Terms.{item, decimal}
 use Rattle.decimals.proofs.Digits.{decimal_length}
 use Rattle.runoff.specs.Page.{round_word, leaves_word, winner_word, none_word, dash, named, named_or, header_cell, count_cell, leaver_among, header_line, count_cells, round_line, winner_line, count_line}
+use Rattle.runoff.specs.Rounds.{candidate}
+use Rattle.runoff.specs.Told.{named_in}
 use Rattle.runoff.specs.declared.Standings.{Standings}
 use Rattle.runoff.proofs.Outcomes.{picked, unpicked}
 
@@ -30,14 +33,14 @@ pub named_length : (k : ℕ) → length (named k) ≤ 11
 unfolding named
 named_length k = omega (arith, length-append (35 ∷ []) (decimal k), decimal_length k)
 
--- nobody, or somebody
-pub named_none : (word : List ℕ) (k : ℕ) → k ≡ 0 → word ≡ named_or word k
-unfolding named_or
-named_none word k e = sym (choose_clear k word (named k) e)
+-- somebody by number, or nobody
+pub named_as : (word : List ℕ) (k : ℕ) → named_in word (candidate k) ≡ named_or word k
+unfolding named_or choose
+named_as word zero = refl
+named_as word (suc k) = refl
 
-pub named_some : (word : List ℕ) (k : ℕ) → k ≢ 0 → named k ≡ named_or word k
-unfolding named_or
-named_some word k e = sym (choose_set k word (named k) e)
+pub named_by : (word : List ℕ) {l out : List ℕ} {a r : ℕ} {who : Option ℕ} (k : ℕ) → who ≡ candidate k → Went l a (named_in word who) out r → Went l a (named_or word k) out r
+named_by word k e w = go_same w (ap (named_in word) e ∙ named_as word k)
 
 pub named_or_length : (word : List ℕ) (k : ℕ) → length word ≤ 11 → length (named_or word k) ≤ 11
 unfolding named_or choose
@@ -50,13 +53,9 @@ header_cell_length i = omega (arith, length-append (9 ∷ []) (named (i + 1)), n
 
 -- who stands, who leaves in this round, and who has left before
 module _ (round left count : ℕ) where
-  pub cell_stands : left ≡ 0 → (9 ∷ []) ++ decimal count ≡ count_cell round left count
+  pub cell_counts : (equal left 0 or equal left round) ≡ true → (9 ∷ []) ++ decimal count ≡ count_cell round left count
   unfolding count_cell
-  cell_stands e = ap (λ (l : List ℕ). (9 ∷ []) ++ l) (sym (picked (decimal count) dash (sym (or_stop _ _ (is_equal e)))))
-
-  pub cell_leaves : left ≢ 0 → left ≡ round → (9 ∷ []) ++ decimal count ≡ count_cell round left count
-  unfolding count_cell
-  cell_leaves ne e = ap (λ (l : List ℕ). (9 ∷ []) ++ l) (sym (picked (decimal count) dash (sym (or_go _ _ (not_equal ne) (sym (is_equal e))))))
+  cell_counts e = ap (λ (l : List ℕ). (9 ∷ []) ++ l) (sym (picked (decimal count) dash e))
 
   pub cell_gone : left ≢ 0 → left ≢ round → (9 ∷ []) ++ dash ≡ count_cell round left count
   unfolding count_cell
@@ -73,13 +72,13 @@ module _ (round left count : ℕ) where
 -- ---- who leaves
 
 module _ (left : List ℕ) (round n : ℕ) where
-  pub leaver_next : item left n ≡ round → n + 1 ≡ leaver_among left round (n + 1)
+  pub leaver_next : item left n ≡ round → Some (n + 1) ≡ candidate (leaver_among left round (n + 1))
   unfolding leaver_among
-  leaver_next e = rw (add-one n) (sym (picked (suc n) (leaver_among left round n) (is_equal e)))
+  leaver_next e = rw (add-one n) (ap candidate (sym (picked (suc n) (leaver_among left round n) (is_equal e))))
 
-  pub leaver_before : item left n ≢ round → leaver_among left round n ≡ leaver_among left round (n + 1)
+  pub leaver_before : item left n ≢ round → candidate (leaver_among left round n) ≡ candidate (leaver_among left round (n + 1))
   unfolding leaver_among
-  leaver_before e = rw (add-one n) (sym (unpicked (suc n) (leaver_among left round n) (not_equal e)))
+  leaver_before e = rw (add-one n) (ap candidate (sym (unpicked (suc n) (leaver_among left round n) (not_equal e))))
 
 -- ---- lines
 

@@ -7,14 +7,15 @@ use Prim.Native.Nat.{ℕ, zero, suc, ◌+◌, ◌-◌, ◌*◌, ◌≤◌, ◌<�
 use native.Mathlib.Nat.{le_refl}
 use native.Mathlib.Omega.{arith}
 use lib.ListN.{length, set}
-use Rattle.laws.specs.Tests.{pick, below, equal, differ, ◌or◌, or_fails, unequal_iff, differ_fails}
+use Rattle.std.specs.Prelude.{Option, Some, MatchOption, is_some, unwrap_or}
+use Rattle.laws.specs.Tests.{pick, below, equal, ◌or◌, or_fails, unequal_iff}
 use Rattle.laws.specs.Tables.{tabulate, get_tabulate, same_tabulate}
 use Rattle.protocol.specs.Terms.{item}
 use Rattle.runoff.specs.Ranking.{standing}
-use Rattle.runoff.specs.Rounds.{winner_among, fewest_among, last_counts, support, counting, round_winner, decided, left_after, start, next, onward, result}
+use Rattle.runoff.specs.Rounds.{candidate, winner_among, fewest_among, last_counts, support, counting, round_winner, decided, left_after, start, next, onward, result}
 use Rattle.runoff.specs.declared.Standings.{Standings}
-use Rattle.runoff.proofs.Deciding.{counting_with, leaves_some}
-use Rattle.runoff.proofs.Outcomes.{picked, unpicked, fewer_same, fewest_within}
+use Rattle.runoff.proofs.Deciding.{Leaves, counting_with, leaves_some}
+use Rattle.runoff.proofs.Outcomes.{picked, unpicked, some_is, number_is, named_is, some_number, winner_within, fewer_same, fewest_within}
 
 -- ---- counts that are the same give the same outcome
 
@@ -57,47 +58,57 @@ module _ (candidates : ℕ) (votes : List ℕ) (s : Standings) (few : candidates
   all_is : all ≡ counting candidates votes s.left
   all_is = omega (arith, item_is 0 (omega arith), counting_with candidates votes s.left)
 
-  winner_of : {w : ℕ} → w ≡ winner_among all (item counts) candidates → w ≡ round_winner candidates votes s.left
-  unfolding round_winner
-  winner_of e =
-      e ∙ ap (λ (n : ℕ). winner_among n (item counts) candidates) all_is
-      ∙ winner_same (item counts) (support candidates votes s.left) (counting candidates votes s.left) candidates (λ k a b. item_is k (omega arith))
-
   counts_of : {a : List ℕ} → a ≡ last_counts s.left (item counts) s.counts → a ≡ last_counts s.left (support candidates votes s.left) s.counts
   counts_of e = e ∙ last_same (item counts) (support candidates votes s.left) s.left s.counts (λ k a b. item_is k b)
 
-  fewest_of : {f : ℕ} → f ≡ fewest_among s.left (item counts) candidates → f ≡ fewest_among s.left (support candidates votes s.left) candidates
-  fewest_of e = e ∙ fewest_same (item counts) (support candidates votes s.left) s.left candidates (λ k a b. item_is k (omega arith))
+  module _ {winner : Option ℕ} (wins : winner ≡ candidate (winner_among all (item counts) candidates)) where
+    winner_of : winner ≡ candidate (round_winner candidates votes s.left)
+    unfolding round_winner
+    winner_of =
+        wins ∙ ap candidate (ap (λ (n : ℕ). winner_among n (item counts) candidates) all_is
+        ∙ winner_same (item counts) (support candidates votes s.left) (counting candidates votes s.left) candidates (λ k a b. item_is k (omega arith)))
 
-  module _ {w : ℕ} (wins : w ≡ winner_among all (item counts) candidates) {b : Bool} (decides : b ≡ (equal all 0 or differ w 0)) where
-    decided_of : b ≡ decided candidates votes s.left
-    unfolding decided
-    decided_of = decides ∙ ap₂ (λ (n v : ℕ). equal n 0 or differ v 0) all_is (winner_of wins)
+    -- the winner's number
+    pub number_of : {w : ℕ} → w ≡ unwrap_or winner 0 → w ≡ round_winner candidates votes s.left
+    number_of e = e ∙ ap (λ (o : Option ℕ). unwrap_or o 0) winner_of ∙ number_is (round_winner candidates votes s.left)
 
-    -- where it is decided nobody leaves
-    pub next_over : {a : List ℕ} → a ≡ last_counts s.left (item counts) s.counts → b ≡ true
-        → record { counts = a; left = s.left; rounds = s.rounds + 1; winner = w; over = true } ≡ next candidates votes s
-    unfolding next left_after
-    next_over e t =
-        let d : decided candidates votes s.left ≡ true = sym decided_of ∙ t in
-        standings_same (counts_of e) (sym (picked s.left _ d)) (winner_of wins) (sym d)
+    pub number_most : {w : ℕ} → w ≡ unwrap_or winner 0 → w ≤ 9
+    unfolding round_winner
+    number_most e = rw (number_of e) (omega (arith, winner_within (counting candidates votes s.left) (support candidates votes s.left) candidates))
 
-    module _ {f : ℕ} (fewest : f ≡ fewest_among s.left (item counts) candidates) (t : b ≡ false) where
-      -- else somebody stands who leaves
-      pub leaver : (1 ≤ f) × (f ≤ 9)
-      leaver =
-          let l = leaves_some candidates votes s.left (λ z. (unequal_iff all 0).0 ((or_fails (equal all 0) (differ w 0)).0 (sym decides ∙ t)).0 (all_is ∙ z)) in
-          (rw (fewest_of fewest) l.from, omega (arith, fewest_of fewest, l.to))
+    module _ {b : Bool} (decides : b ≡ (equal all 0 or is_some winner)) where
+      decided_of : b ≡ decided candidates votes s.left
+      unfolding decided
+      decided_of =
+          decides ∙ ap₂ (λ (n : ℕ) (t : Bool). equal n 0 or t) all_is (ap is_some winner_of ∙ named_is (round_winner candidates votes s.left))
 
-      pub next_on : {a l : List ℕ} → a ≡ last_counts s.left (item counts) s.counts → l ≡ set s.left (f - 1) (s.rounds + 1)
-          → record { counts = a; left = l; rounds = s.rounds + 1; winner = 0; over = false } ≡ next candidates votes s
-      unfolding next left_after
-      next_on e g =
-          let d : decided candidates votes s.left ≡ false = sym decided_of ∙ t in
-          let z : 0 ≡ w = sym ((differ_fails w 0).0 ((or_fails (equal all 0) (differ w 0)).0 (sym decides ∙ t)).1) in
-          standings_same (counts_of e)
-          (g ∙ ap (λ (k : ℕ). set s.left (k - 1) (s.rounds + 1)) (fewest_of fewest) ∙ sym (unpicked s.left _ d))
-          (z ∙ winner_of wins) (sym d)
+      -- where it is not decided somebody stands who leaves
+      module _ {o : Option ℕ} (fewest : o ≡ candidate (fewest_among s.left (item counts) candidates)) (t : b ≡ false) where
+        leaver_of : o ≡ candidate (fewest_among s.left (support candidates votes s.left) candidates)
+        leaver_of = fewest ∙ ap candidate (fewest_same (item counts) (support candidates votes s.left) s.left candidates (λ k a b. item_is k (omega arith)))
+
+        leaves : Leaves s.left (support candidates votes s.left) candidates (fewest_among s.left (support candidates votes s.left) candidates)
+        leaves = leaves_some candidates votes s.left (λ z. (unequal_iff all 0).0 ((or_fails (equal all 0) (is_some winner)).0 (sym decides ∙ t)).0 (all_is ∙ z))
+
+        pub leaver_small : (k : ℕ) → o ≡ Some k → (1 ≤ k) × (k ≤ 9)
+        leaver_small k e = let i = some_number leaver_of e in (omega (arith, i, leaves.from), omega (arith, i, leaves.to))
+
+        pub left_gone : {l : List ℕ} → MatchOption o (l ≡ s.left) (λ k. l ≡ set s.left (k - 1) (s.rounds + 1)) → l ≡ left_after candidates votes s.left (s.rounds + 1)
+        unfolding left_after
+        left_gone {l} h =
+            let f : ℕ = fewest_among s.left (support candidates votes s.left) candidates in
+            let g : l ≡ set s.left (f - 1) (s.rounds + 1) = (rw (leaver_of ∙ sym (some_is f (omega (arith, leaves.from)))) at h) in
+            g ∙ sym (unpicked s.left _ (sym decided_of ∙ t))
+
+      -- and where it is nobody leaves
+      pub left_kept : b ≡ true → {l : List ℕ} → l ≡ s.left → l ≡ left_after candidates votes s.left (s.rounds + 1)
+      unfolding left_after
+      left_kept t e = e ∙ sym (picked s.left _ (sym decided_of ∙ t))
+
+      pub next_is : {a l : List ℕ} {w : ℕ} → a ≡ last_counts s.left (item counts) s.counts → l ≡ left_after candidates votes s.left (s.rounds + 1)
+          → w ≡ unwrap_or winner 0 → record { counts = a; left = l; rounds = s.rounds + 1; winner = w; over = b } ≡ next candidates votes s
+      unfolding next
+      next_is e l w = standings_same (counts_of e) l (number_of w) decided_of
 
 -- ---- the rounds
 

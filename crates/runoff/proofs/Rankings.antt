@@ -8,14 +8,14 @@ use native.Mathlib.Decide.{ℕ_discrete, dec_le}
 use native.Mathlib.Omega.{arith}
 use lib.ListN.{length, get_or, set, replicate, get_or-replicate, length-set}
 use lib.Seq.{get_or-set_same, get_or-set_other}
-use lib.Dec.{eqb}
-use borrow.Author.Tests.{eq-eqb, ne_eqb}
+use Rattle.std.specs.Prelude.{Option, None, Some, is_some}
 use Rattle.laws.specs.Tests.{pick, equal, differ, below, ◌and◌, never, refuted, and_iff, at_most_iff, and_go, and_stop, and_last_stop, is_equal, not_equal, is_differ, not_differ, is_at_most, not_at_most, differ_iff, differ_fails}
 use Rattle.laws.specs.Sorting.{count, is, is_cases}
 use Rattle.protocol.specs.Terms.{digits, decimal}
 use Rattle.decimals.proofs.Digits.{one_byte, decimal_one, decimal_more}
 use Rattle.runoff.specs.Ranking.{ranking, ranks, valid, spoiled, first_standing, counts_for, standing}
-use Rattle.runoff.proofs.Outcomes.{picked, unpicked}
+use Rattle.runoff.specs.Rounds.{candidate}
+use Rattle.runoff.proofs.Outcomes.{picked, unpicked, some_is, picked_candidate}
 
 -- the digits of what is still to be read, none of 0
 unfoldable pub digits_of : ℕ → List ℕ
@@ -87,17 +87,16 @@ module _ (candidates : ℕ) (left : List ℕ) (vote : ℕ) where
   -- ---- the loop
 
   -- `lower` is the end of the ranking that was read
-  pub record Read (named : List Bool) (first rest : ℕ) : Type 0 where
+  pub record Read (named : List Bool) (first : Option ℕ) (rest : ℕ) : Type 0 where
     pub lower : List ℕ
     pub whole : digits_of vote ≡ digits_of rest ++ lower
     pub stands : ranks candidates lower ≡ true
     pub marked : (k : ℕ) → k < 10 → get_or named k false ≡ differ (count k lower) 0
-    pub is_first : first ≡ first_standing left lower
-    pub small : first ≤ 9
+    pub is_first : first ≡ candidate (first_standing left lower)
     pub fits : rest < 4294967296
     pub long : length named ≡ 10
 
-  pub none_read : vote < 4294967296 → Read (replicate 10 false) 0 vote
+  pub none_read : vote < 4294967296 → Read (replicate 10 false) None vote
   unfolding ranks first_standing
   none_read h = record {
     lower = [];
@@ -105,12 +104,11 @@ module _ (candidates : ℕ) (left : List ℕ) (vote : ℕ) where
     stands = refl;
     marked = λ k l. get_or-replicate 10 k false false l ∙ sym (not_differ refl);
     is_first = refl;
-    small = omega arith;
     fits = h;
     long = refl;
   }
 
-  module _ {named : List Bool} {first rest : ℕ} (r : Read named first rest) (more : rest ≢ 0) where
+  module _ {named : List Bool} {first : Option ℕ} {rest : ℕ} (r : Read named first rest) (more : rest ≢ 0) where
     abbrev k : ℕ
     k = rest % 10
 
@@ -121,23 +119,23 @@ module _ (candidates : ℕ) (left : List ℕ) (vote : ℕ) where
         ∙ ap (λ (d : List ℕ). d ++ r.lower) (digits_last rest more (omega (arith, r.fits)))
         ∙ append_assoc (digits_of (rest / 10)) (k ∷ []) r.lower
 
-    fails : ranks candidates (k ∷ r.lower) ≡ false → 0 ≡ counts_for candidates left vote
-    fails h = invalid_counts (rw whole_more (refuted _ (λ e. never (ranks_end candidates (digits_of (rest / 10)) (k ∷ r.lower) e) h)))
+    fails : ranks candidates (k ∷ r.lower) ≡ false → None ≡ candidate (counts_for candidates left vote)
+    fails h = ap candidate (invalid_counts (rw whole_more (refuted _ (λ e. never (ranks_end candidates (digits_of (rest / 10)) (k ∷ r.lower) e) h))))
 
-    pub zero_fails : k ≡ 0 → 0 ≡ counts_for candidates left vote
+    pub zero_fails : k ≡ 0 → None ≡ candidate (counts_for candidates left vote)
     unfolding ranks
     zero_fails h = fails (sym (and_stop _ _ (sym (and_stop _ _ (not_at_most (omega arith))))))
 
-    pub high_fails : candidates < k → 0 ≡ counts_for candidates left vote
+    pub high_fails : candidates < k → None ≡ candidate (counts_for candidates left vote)
     unfolding ranks
     high_fails h = fails (sym (and_stop _ _ (sym (and_last_stop _ _ (not_at_most h)))))
 
-    pub repeated_fails : get_or named k false ≡ true → 0 ≡ counts_for candidates left vote
+    pub repeated_fails : get_or named k false ≡ true → None ≡ candidate (counts_for candidates left vote)
     unfolding ranks
     repeated_fails h =
         fails (sym (and_last_stop _ _ (sym (and_stop _ _ (not_equal ((differ_iff (count k r.lower) 0).0 (sym (r.marked k (omega arith)) ∙ h)))))))
 
-    pub one_read : k ≢ 0 → k ≤ candidates → get_or named k false ≡ false → (f : ℕ) → f ≡ pick (standing left k) k first
+    pub one_read : k ≢ 0 → k ≤ candidates → get_or named k false ≡ false → (f : Option ℕ) → f ≡ pick (standing left k) (Some k) first
         → Read (set named k true) f (rest / 10)
     unfolding ranks first_standing
     one_read some most new f e = record {
@@ -145,8 +143,7 @@ module _ (candidates : ℕ) (left : List ℕ) (vote : ℕ) where
       whole = whole_more;
       stands = (and_iff _ _).1 ((and_iff _ _).1 (is_at_most (omega arith), is_at_most most), (and_iff _ _).1 (is_equal ((differ_fails (count k r.lower) 0).0 (sym (r.marked k (omega arith)) ∙ new)), r.stands));
       marked = λ q l. mark q l (is_cases q k);
-      is_first = e ∙ ap (pick (standing left k) k) r.is_first;
-      small = rw e (bound (standing left k));
+      is_first = e ∙ ap (pick (standing left k) (Some k)) r.is_first ∙ picked_candidate (standing left k) k _ some;
       fits = omega (arith, r.fits);
       long = length-set named k true ∙ r.long;
     }
@@ -155,14 +152,10 @@ module _ (candidates : ℕ) (left : List ℕ) (vote : ℕ) where
         mark q l (inl (same, one)) = rw same (get_or-set_same named k true false (omega (arith, r.long))) ∙ sym (is_differ (omega arith))
         mark q l (inr (other, none)) = get_or-set_other named k q true false other ∙ r.marked q l ∙ ap (λ (n : ℕ). differ n 0) (omega arith)
 
-        bound : (b : Bool) → pick b k first ≤ 9
-        bound true = omega arith
-        bound false = r.small
-
-  pub all_read : {named : List Bool} {first rest : ℕ} → Read named first rest → rest ≡ 0 → first ≡ counts_for candidates left vote
+  pub all_read : {named : List Bool} {first : Option ℕ} {rest : ℕ} → Read named first rest → rest ≡ 0 → first ≡ candidate (counts_for candidates left vote)
   all_read {named} {first} {rest} r e =
       let w : digits_of vote ≡ r.lower = r.whole ∙ ap (λ (x : ℕ). digits_of x ++ r.lower) e ∙ ap (λ (d : List ℕ). d ++ r.lower) none_of_zero in
-      r.is_first ∙ ap (first_standing left) (sym w) ∙ valid_counts (rw w r.stands)
+      r.is_first ∙ ap candidate (ap (first_standing left) (sym w) ∙ valid_counts (rw w r.stands))
 
 -- ---- with nobody gone every valid vote counts
 
@@ -192,19 +185,25 @@ first_ranked candidates vote h =
     (k, ks, e, (at_most_iff 1 k).0 a, (at_most_iff k candidates).0 b)
 
 -- a vote that is not blank is spoiled exactly if it counts for none with nobody gone
-pub spoiled_is : (candidates vote k : ℕ) → candidates ≤ 9 → vote ≢ 0 → k ≡ counts_for candidates (replicate 9 0) vote → eqb k 0 ≡ spoiled candidates vote
+pub spoiled_is : (candidates vote : ℕ) {o : Option ℕ} {b : Bool} → candidates ≤ 9 → vote ≢ 0 → o ≡ candidate (counts_for candidates (replicate 9 0) vote)
+    → is_some o ≡ not b → b ≡ spoiled candidates vote
 unfolding spoiled counts_for first_standing standing
-spoiled_is candidates vote k most some e = go (valid candidates vote) refl
+spoiled_is candidates vote {o} {b} most some e h = twice b ∙ ap not (sym h ∙ ap is_some e) ∙ go (valid candidates vote) refl
   where
-    go : (b : Bool) → valid candidates vote ≡ b → eqb k 0 ≡ (differ vote 0 and not (valid candidates vote))
+    twice : (b : Bool) → b ≡ not (not b)
+    twice true = refl
+    twice false = refl
+
+    go : (b : Bool) → valid candidates vote ≡ b
+        → not (is_some (candidate (counts_for candidates (replicate 9 0) vote))) ≡ (differ vote 0 and not (valid candidates vote))
     go true v =
         let (d, ds, r, low, high) = first_ranked candidates vote v in
-        let f : k ≡ d = e ∙ picked _ 0 v ∙ rw r (firstly d ds low (omega arith)) in
-        rw v (ne_eqb k 0 (omega arith) ∙ and_last_stop (differ vote 0) false refl)
+        let f : counts_for candidates (replicate 9 0) vote ≡ d = picked _ 0 v ∙ rw r (firstly d ds low (omega arith)) in
+        rw (f, v, ← some_is d (omega arith)) (and_last_stop (differ vote 0) false refl)
       where
         firstly : (d : ℕ) (ds : List ℕ) → 1 ≤ d → d ≤ 9 → first_standing (replicate 9 0) (d ∷ ds) ≡ d
         firstly d ds low high = picked d _ (is_equal (get_or-replicate 9 (d - 1) 0 0 (omega arith)))
-    go false v = rw v (eq-eqb k 0 (e ∙ unpicked _ 0 v) ∙ and_go _ _ (is_differ some) refl)
+    go false v = let f : counts_for candidates (replicate 9 0) vote ≡ 0 = unpicked _ 0 v in rw (f, v) (and_go _ _ (is_differ some) refl)
 
 pub blank_unspoiled : (candidates vote : ℕ) → vote ≡ 0 → false ≡ spoiled candidates vote
 unfolding spoiled

@@ -1,13 +1,13 @@
 -- The entries of the table, candidate by candidate.
 use mathlib.Core.Path.{◌≡◌, refl, sym, ap, ap₂, ◌∙◌}
 use mathlib.Core.List.{List, [], ◌∷◌, ◌++◌, append-nil}
-use Prim.Native.Nat.{ℕ, zero, suc, ◌+◌, ◌-◌, ◌<◌}
+use Prim.Native.Nat.{ℕ, zero, suc, ◌+◌, ◌≤◌, ◌<◌}
 use native.Mathlib.Nat.{not-suc-le-zero}
 use native.Mathlib.Numerals.{add-one}
 use native.Mathlib.Omega.{arith}
-use lib.ListN.{length, get_or, set, drop}
-use lib.Seq.{take_all, drop-length}
-use Rattle.laws.specs.Tests.{pick, equal}
+use lib.ListN.{length, get_or, set, take, drop}
+use lib.Seq.{drop-length}
+use Rattle.laws.specs.Tests.{pick}
 use Rattle.protocol.specs.Terms.{item}
 use Rattle.runoff.specs.Ranking.{standing}
 use Rattle.runoff.specs.Rounds.{entries}
@@ -34,10 +34,9 @@ stored_entry counts left before {i} e l h =
     ap₂ (λ (t : List Candidate) (x : Candidate). set t i x) e (sym (entry_at counts left i l h)) ∙ filled_more nobody (entries counts left) before i
 
 -- a candidate's last count, as code has it
-pub last_is : (left round counts : List ℕ) (i : ℕ) {r : ℕ} → r ≡ pick (equal (item left i) 0) (item round (i + 1)) (item counts i)
+pub last_is : (left round counts : List ℕ) (i : ℕ) {r : ℕ} → r ≡ pick (standing left (i + 1)) (item round (i + 1)) (item counts i)
     → r ≡ pick (standing left (suc i)) (item round (suc i)) (item counts i)
-unfolding standing
-last_is left round counts i e = let back : suc i - 1 ≡ i = omega arith in rw back (rw (add-one i) at e)
+last_is left round counts i e = rw (add-one i) at e
 
 pub length_entries : (counts left : List ℕ) → length left ≡ length counts → length (entries counts left) ≡ length counts
 unfolding entries
@@ -45,10 +44,10 @@ length_entries [] left e = refl
 length_entries (n ∷ counts) [] e = absurd (omega arith)
 length_entries (n ∷ counts) (r ∷ left) e = ap suc (length_entries counts left (omega arith))
 
-pub all_entries : (counts left : List ℕ) (before : List Candidate) (i : ℕ) → length left ≡ length counts → length before ≡ length counts → i ≡ length counts
-    → filled nobody (entries counts left) before i ≡ entries counts left
-all_entries counts left before i e h l =
-    let long = length_entries counts left e in
-    filled_all nobody (entries counts left) before i (omega arith) (omega arith)
-    ∙ ap₂ (λ (a b : List Candidate). a ++ b) (take_all i (entries counts left) (omega arith)) (ap (λ (n : ℕ). drop n before) (l ∙ sym h) ∙ drop-length before)
-    ∙ append-nil (entries counts left)
+pub table_filled : (counts left : List ℕ) (table : List Candidate) (i : ℕ) → length left ≡ length counts → length table ≤ length counts → i ≡ length table
+    → filled nobody (entries counts left) table i ≡ take (length table) (entries counts left)
+table_filled counts left table i e h l =
+    filled_all nobody (entries counts left) table i (omega arith) (omega (arith, length_entries counts left e))
+    ∙ ap₂ (λ (m n : ℕ). take m (entries counts left) ++ drop n table) l l
+    ∙ ap (λ (d : List Candidate). take (length table) (entries counts left) ++ d) (drop-length table)
+    ∙ append-nil (take (length table) (entries counts left))

@@ -1,19 +1,45 @@
 -- The count of a round, vote by vote: what is counted for each candidate, with what is left, is the whole.
 use mathlib.Core.Path.{◌≡◌, refl, sym, ap, ◌∙◌}
-use mathlib.Core.Bool.{Bool}
+use mathlib.Core.Bool.{Bool, true, false, cond}
 use mathlib.Core.List.{List}
 use Prim.Native.Nat.{ℕ, ◌+◌, ◌≤◌, ◌<◌}
 use native.Mathlib.Decide.{ℕ_discrete}
 use native.Mathlib.Omega.{arith}
 use lib.ListN.{length, set, replicate, get_or-replicate, length-set}
 use lib.Seq.{get_or-set_same, get_or-set_other}
+use Rattle.std.specs.Prelude.{Option, unwrap_or}
+use Rattle.std.specs.List.{count_by}
+use Rattle.std.proofs.lemmas.List.Recursion.{is_count_by}
 use Rattle.laws.specs.Tests.{equal, is_equal, not_equal}
 use Rattle.laws.specs.Sums.{one_if}
-use Rattle.laws.specs.Counting.{Counted, none_counted, one_counted, all_counted}
+use Rattle.laws.specs.Counting.{how_many, Counted, none_counted, one_counted, all_counted}
 use Rattle.laws.specs.Tables.{tabulate, tabulate_of}
 use Rattle.protocol.specs.Terms.{item}
 use Rattle.runoff.specs.Ranking.{counts_for}
-use Rattle.runoff.specs.Rounds.{support}
+use Rattle.runoff.specs.Rounds.{candidate, support}
+use Rattle.runoff.proofs.Deciding.{counts_stands}
+use Rattle.runoff.proofs.Outcomes.{number_is}
+
+-- how many numbers meet a test, in std's words
+pub count_is : (t : ℕ → Bool) (xs : List ℕ) → count_by t xs ≡ how_many t xs
+unfolding how_many
+count_is t xs = sym (is_count_by (how_many t) t refl (λ x xs. go (t x) (how_many t xs)) xs)
+  where
+    go : (b : Bool) (n : ℕ) → one_if b + n ≡ cond b (1 + n) n
+    go true n = refl
+    go false n = omega arith
+
+-- the number of the candidate that a vote counts for, 0 for none
+module _ (candidates : ℕ) (left : List ℕ) (vote : ℕ) {o : Option ℕ} {k : ℕ} where
+  pub number_for : o ≡ candidate (counts_for candidates left vote) → k ≡ unwrap_or o 0 → k ≡ counts_for candidates left vote
+  number_for e h = h ∙ ap (λ (p : Option ℕ). unwrap_or p 0) e ∙ number_is (counts_for candidates left vote)
+
+  pub number_small : candidates ≤ 9 → o ≡ candidate (counts_for candidates left vote) → k ≡ unwrap_or o 0 → k ≤ 9
+  number_small few e h = rw (number_for e h) (go (ℕ_discrete (counts_for candidates left vote) 0))
+    where
+      go : Dec (counts_for candidates left vote ≡ 0) → counts_for candidates left vote ≤ 9
+      go (yes z) = omega arith
+      go (no some) = omega (arith, (counts_stands candidates left vote some).0.1)
 
 module _ (candidates : ℕ) (votes left : List ℕ) where
   -- whether a vote counts for candidate k

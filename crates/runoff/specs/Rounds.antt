@@ -1,20 +1,25 @@
 -- Document 02, item 2: a round, the rounds one behind the other, and the table.
-use Rattle.std.specs.Prelude.{Bool, false, List, [], ◌∷◌, ℕ, zero, suc, ◌+◌, ◌-◌, ◌*◌, length, take, set, replicate}
+use Rattle.std.specs.Prelude.{Bool, false, List, [], ◌∷◌, ℕ, zero, suc, ◌+◌, ◌-◌, ◌*◌, Option, None, Some, Result, unwrap_or, length, take, set, replicate}
 use Rattle.laws.specs.Tests.{equal, differ, below, at_most, ◌and◌, ◌or◌, pick, choose}
 use Rattle.laws.specs.Counting.{how_many}
 use Rattle.laws.specs.Faults.{rule, kept}
 use Rattle.laws.specs.Tables.{tabulate}
 use Rattle.protocol.specs.Terms.{item}
-use Rattle.protocol.specs.Answers.{Answer, done, refused, answer_of}
+use Rattle.protocol.specs.declared.Rule.{Rule}
+use Rattle.protocol.specs.Answers.{Answer, answer_of, answer_in}
 use Rattle.runoff.specs.Ranking.{blank, spoiled, standing, counts_for}
 use Rattle.runoff.specs.declared.Candidate.{Candidate}
 use Rattle.runoff.specs.declared.Standings.{Standings}
-use Rattle.runoff.specs.declared.Runoff.{Runoff}
-use Rattle.runoff.specs.declared.Runoff.TheVariants as runoff
+use Rattle.runoff.specs.declared.Counted.{Counted}
 
 -- "candidates 1 to 9"
 abbrev pub most_candidates : ℕ
 most_candidates = 9
+
+-- a candidate by number, where 0 is for none
+abbrev pub candidate : ℕ → Option ℕ
+candidate zero = None
+candidate (suc k) = Some (suc k)
 
 -- ---- a round's outcome, by how many votes count and how many of them for each candidate
 
@@ -119,7 +124,6 @@ ran_off candidates votes table_long =
 unfoldable pub table_after : ℕ → List ℕ → List Candidate → List Candidate
 table_after candidates votes before = choose (runoff_refusal candidates (length before)) (table candidates votes) before
 
--- this paper's number and values for each of the enum's cases
-abbrev pub runoff_answer : Runoff → Answer
-runoff_answer (runoff.Counted winner blank spoiled) = done (winner ∷ blank ∷ spoiled ∷ [])
-runoff_answer (runoff.Refused k) = refused k
+-- this paper's number and values for each of the answer's cases: the winner, 0 for none
+abbrev pub runoff_answer : Result Counted Rule → Answer
+runoff_answer = answer_in (λ counted. unwrap_or counted.winner 0 ∷ counted.blank ∷ counted.spoiled ∷ [])

@@ -1,18 +1,9 @@
 -- What inner functions are told and tell.
-use Rattle.std.specs.Prelude.{◌≡◌, List, ◌++◌, ℕ, ◌+◌, ◌*◌, ◌≤◌, ◌<◌, length, take, drop}
-use Rattle.runoff.specs.Rounds.{most_candidates, ran_off, table_after, runoff_answer}
-use Rattle.runoff.specs.declared.Candidate.{Candidate}
+use Rattle.std.specs.Prelude.{List, Option, None, Some, ℕ, ◌+◌, ◌*◌, ◌≤◌, ◌<◌}
+use Rattle.runoff.specs.Rounds.{most_candidates}
+use Rattle.runoff.specs.Page.{named}
 use Rattle.protocol.specs.Terms.{item}
-use Rattle.runoff.specs.declared.Report.{Report}
 use Rattle.runoff.specs.declared.Standings.{Standings}
-
--- what the runoff answers, and which entries it puts in front of a table of so many: none where it refuses
-pub record Ran (candidates : ℕ) (votes : List ℕ) (table_long : ℕ) (r : Report) : Type 0 where
-  pub answered : runoff_answer r.answer ≡ ran_off candidates votes table_long
-  pub fits : r.entries ≤ table_long
-  pub most : r.entries ≤ most_candidates
-  pub filled : (before : List Candidate) → length before ≡ table_long
-      → take r.entries r.table ++ drop r.entries before ≡ table_after candidates votes before
 
 -- ---- the page
 
@@ -29,6 +20,11 @@ most_round_lines = 10
 
 abbrev pub most_lines : ℕ
 most_lines = 13
+
+-- a candidate, or a word for none
+abbrev pub named_in : List ℕ → Option ℕ → List ℕ
+named_in word None = word
+named_in word (Some k) = named k
 
 -- the counts of a round are numbers of 4 bytes
 pub record RoundReady (candidates : ℕ) (s : Standings) : Type 0 where

@@ -3,14 +3,17 @@
 
 pub mod page;
 
-ghost use Rattle.std.specs.Prelude.{◌++◌, ◌≡◌, ◌-◌, ◌≤◌, length, take, drop, set};
-ghost use Rattle.laws.specs.Sums.{one_if};
+ghost use Rattle.std.specs.Prelude.{◌≡◌, ◌-◌, ◌≤◌, IfOk, MatchOption, is_some, unwrap_or, length, take, set};
+ghost use Rattle.std.specs.Option.{ForSome};
 ghost use Rattle.laws.specs.Tables.{tabulate};
-ghost use Rattle.laws.specs.Tests.{equal, differ, ◌or◌, pick};
+ghost use Rattle.laws.specs.Tests.{equal, at_most, ◌or◌};
+ghost use Rattle.protocol.specs.Answers.{number_in};
 ghost use Rattle.protocol.specs.Terms.{item};
 ghost use Rattle.runoff.specs.Ranking.{spoiled, standing, counts_for};
 ghost use Rattle.runoff.specs.Rounds as definitions;
-ghost use Rattle.runoff.specs.Told.{Ran};
+ghost use Rattle.runoff.specs.Rounds.{candidate};
+
+use protocol::Rule;
 
 // The most candidates that a ranking can name: one for each digit but 0.
 pub const MOST_CANDIDATES: usize = 9;
@@ -25,7 +28,7 @@ pub struct Candidate {
 }
 
 // How the rounds stand: of each candidate, k at k - 1, the last count and the round of leaving, 0 if still standing; how many rounds there
-// were; the winner, 0 for none; whether it is over.
+// were; the winner, 0 for none; whether it is over. The definitions of the rounds are over this very struct.
 #[derive(Clone, Copy)]
 pub struct Standings {
     pub counts: [u64; MOST_CANDIDATES],
@@ -35,57 +38,44 @@ pub struct Standings {
     pub over: bool,
 }
 
-// The answer of the runoff: the winner, 0 for none, and how many votes are blank and spoiled.
+// The answer of the runoff: the winner, and how many votes are blank and spoiled.
 #[derive(Clone, Copy)]
-pub enum Runoff {
-    Counted(u32, u64, u64),
-    Refused(u32),
-}
-
-// What the runoff answers, and how many entries of which table it fills.
-#[derive(Clone, Copy)]
-pub struct Report {
-    pub answer: Runoff,
-    pub entries: usize,
-    pub table: [Candidate; MOST_CANDIDATES],
+pub struct Counted {
+    pub winner: Option<u32>,
+    pub blank: u64,
+    pub spoiled: u64,
 }
 
 // ---- a round
 
-// The candidate k where k stands, else the one given.
-fn standing_or(left: &[u32; MOST_CANDIDATES], k: usize, other: usize) -> usize
+// Whether candidate k still stands.
+fn stands(left: &[u32; MOST_CANDIDATES], k: usize) -> bool
     requires { (1 ≤ k) × (k ≤ 9) }
-    ensures { result ≡ pick (standing left.now k) k other }
+    ensures { result ≡ standing left.now k }
 {
-    if left[k - 1] == 0 {
-        return k;
-    }
-    other
+    left[k - 1] == 0
 }
 
-// The candidate that a vote counts for, 0 for none. Its digits are read from the right, so that the last one met that stands is the first
-// of the ranking.
-fn counts_for(vote: u32, candidates: usize, left: &[u32; MOST_CANDIDATES]) -> usize
+// The candidate that a vote counts for. Its digits are read from the right, so that the last one met that stands is the first of the
+// ranking.
+fn counts_for(vote: u32, candidates: usize, left: &[u32; MOST_CANDIDATES]) -> Option<usize>
     requires { candidates ≤ 9 }
-    ensures { (result ≡ counts_for candidates left.now vote) × (result ≤ 9) }
+    ensures { result ≡ candidate (counts_for candidates left.now vote) }
 {
     let mut named = [false; MOST_CANDIDATES + 1];
-    let mut first: usize = 0;
+    let mut first = None;
     let mut rest = vote;
+    // a `while`: how many digits there are shows when none is left
     while rest != 0 {
         let k = (rest % 10) as usize;
-        if k == 0 {
-            return 0;
-        }
-        if candidates < k {
-            return 0;
-        }
-        if named[k] {
-            return 0;
+        if !(1..=candidates).contains(&k) || named[k] {
+            return None;
         }
         named[k] = true;
-        first = standing_or(left, k, first);
-        rest = rest / 10;
+        rest /= 10;
+        if stands(left, k) {
+            first = Some(k);
+        }
     }
     first
 }
@@ -100,95 +90,70 @@ fn count_round(
     ensures { result ≡ tabulate (definitions.support candidates votes.now left.now) 10 }
 {
     let mut counts = [0u64; MOST_CANDIDATES + 1];
-    let mut i: usize = 0;
-    while i < votes.len() {
-        let k = counts_for(votes[i], candidates, left);
-        counts[k] = counts[k] + 1;
-        i += 1;
+    for &vote in votes {
+        let k = counts_for(vote, candidates, left).unwrap_or(0);
+        counts[k] += 1;
     }
     counts
 }
 
-// The candidate with more than half of the votes that count, 0 for none.
-fn winner_among(all: u64, counts: &[u64; MOST_CANDIDATES + 1], candidates: usize) -> usize
+// The candidate with more than half of the votes that count.
+fn winner_among(all: u64, counts: &[u64; MOST_CANDIDATES + 1], candidates: usize) -> Option<usize>
     requires { candidates ≤ 9 }
-    ensures { (result ≡ definitions.winner_among all (item counts.now) candidates) × (result ≤ candidates) }
+    ensures { result ≡ candidate (definitions.winner_among all (item counts.now) candidates) }
 {
-    let mut winner: usize = 0;
-    let mut n: usize = 0;
-    while n < candidates {
+    let mut winner = None;
+    for n in 0..candidates {
         if all / 2 < counts[n + 1] {
-            winner = n + 1;
-            n += 1;
-        } else {
-            n += 1;
+            winner = Some(n + 1);
         }
     }
     winner
 }
 
-// Of two candidates the one who leaves first, k being the higher: k where k stands and has no more votes. The other is 0 where there is
-// none yet.
-fn fewer_of(
-    left: &[u32; MOST_CANDIDATES],
-    counts: &[u64; MOST_CANDIDATES + 1],
-    k: usize,
-    other: usize,
-) -> usize
-    requires { ((1 ≤ k) × (k ≤ 9)) × (other ≤ 9) }
-    ensures { result ≡ definitions.fewer left.now (item counts.now) k other }
+// Whether candidate k, who has the higher number, leaves rather than another: where k has no more votes, or there is no other yet.
+fn leaves_rather(counts: &[u64; MOST_CANDIDATES + 1], k: usize, other: Option<usize>) -> bool
+    requires { (k ≤ 9) × ForSome other (λ o. (1 ≤ o) × (o ≤ 9)) }
+    ensures { let o = unwrap_or other 0 in
+        result ≡ (equal o 0 or at_most (item counts.now k) (item counts.now o)) }
 {
-    if left[k - 1] != 0 {
-        return other;
+    match other {
+        Some(o) => counts[k] <= counts[o],
+        None => true,
     }
-    if other == 0 {
-        return k;
-    }
-    if counts[k] <= counts[other] {
-        return k;
-    }
-    other
 }
 
-// The candidate standing with fewest votes, of equals the highest number; 0 where none stands.
+// The candidate standing with fewest votes, of equals the highest number.
 fn fewest_among(
     left: &[u32; MOST_CANDIDATES],
     counts: &[u64; MOST_CANDIDATES + 1],
     candidates: usize,
-) -> usize
+) -> Option<usize>
     requires { candidates ≤ 9 }
-    ensures { (result ≡ definitions.fewest_among left.now (item counts.now) candidates) × (result ≤ candidates) }
+    ensures { result ≡ candidate (definitions.fewest_among left.now (item counts.now) candidates) }
 {
-    let mut fewest: usize = 0;
-    let mut n: usize = 0;
-    while n < candidates {
-        fewest = fewer_of(left, counts, n + 1, fewest);
-        n += 1;
+    let mut fewest = None;
+    for n in 0..candidates {
+        if stands(left, n + 1) && leaves_rather(counts, n + 1, fewest) {
+            fewest = Some(n + 1);
+        }
     }
     fewest
 }
 
-// The rounds of leaving where k leaves in this round.
-fn leave(left: [u32; MOST_CANDIDATES], k: usize, round: u32) -> [u32; MOST_CANDIDATES]
-    requires { (1 ≤ k) × (k ≤ 9) }
-    ensures { result ≡ set left (k - 1) round }
+// The rounds of leaving where one leaves in this round, or nobody.
+fn leave(left: [u32; MOST_CANDIDATES], leaver: Option<usize>, round: u32) -> [u32; MOST_CANDIDATES]
+    requires { ForSome leaver (λ k. (1 ≤ k) × (k ≤ 9)) }
+    ensures { MatchOption leaver (result ≡ left) (λ k. result ≡ set left (k - 1) round) }
 {
     let mut after = left;
-    after[k - 1] = round;
+    if let Some(k) = leaver {
+        after[k - 1] = round;
+    }
     after
 }
 
-// This round's count of who stands, the one before of who has left.
-fn last_count(left: u32, now_counted: u64, counted_before: u64) -> u64
-    ensures { result ≡ pick (equal left 0) now_counted counted_before }
-{
-    if left == 0 {
-        return now_counted;
-    }
-    counted_before
-}
-
-// Each candidate's last count.
+// Each candidate's last count: this round's of who stands, the one before of who has left.
 fn counts_after(
     counts: &[u64; MOST_CANDIDATES],
     round: &[u64; MOST_CANDIDATES + 1],
@@ -197,22 +162,22 @@ fn counts_after(
     ensures { result ≡ definitions.last_counts left.now (item round.now) counts.now }
 {
     let mut after = [0u64; MOST_CANDIDATES];
-    let mut i: usize = 0;
-    while i < MOST_CANDIDATES {
-        after[i] = last_count(left[i], round[i + 1], counts[i]);
-        i += 1;
+    for i in 0..MOST_CANDIDATES {
+        after[i] = if stands(left, i + 1) {
+            round[i + 1]
+        } else {
+            counts[i]
+        };
     }
     after
 }
 
 // Whether a round decides: where no vote counts, or somebody wins.
-fn is_decided(all: u64, winner: usize) -> bool
-    ensures { result ≡ (equal all 0 or differ winner 0) }
+fn is_decided(all: u64, winner: Option<usize>) -> bool
+    ensures { result ≡ (equal all 0 or is_some winner) }
 {
-    if all == 0 {
-        return true;
-    }
-    winner != 0
+    let nothing_counts = all == 0;
+    nothing_counts || winner.is_some()
 }
 
 // One round more.
@@ -221,28 +186,24 @@ pub(crate) fn next(votes: &[u32], candidates: usize, s: Standings) -> Standings
     ensures { result ≡ definitions.next candidates votes.now s }
 {
     let left = s.left;
-    let counts = count_round(votes, candidates, &left);
-    let all = votes.len() as u64 - counts[0];
-    let winner = winner_among(all, &counts, candidates);
     let before = s.counts;
-    let after = counts_after(&before, &counts, &left);
-    let round = s.rounds + 1;
-    if is_decided(all, winner) {
-        return Standings {
-            counts: after,
-            left: left,
-            rounds: round,
-            winner: winner as u32,
-            over: true,
-        };
-    }
-    let gone = leave(left, fewest_among(&left, &counts, candidates), round);
+    let support = count_round(votes, candidates, &left);
+    let all = votes.len() as u64 - support[0];
+    let winner = winner_among(all, &support, candidates);
+    let counts = counts_after(&before, &support, &left);
+    let rounds = s.rounds + 1;
+    let over = is_decided(all, winner);
+    let leaver = if over {
+        None
+    } else {
+        fewest_among(&left, &support, candidates)
+    };
     Standings {
-        counts: after,
-        left: gone,
-        rounds: round,
-        winner: 0,
-        over: false,
+        counts,
+        left: leave(left, leaver, rounds),
+        rounds,
+        winner: winner.unwrap_or(0) as u32,
+        over,
     }
 }
 
@@ -267,52 +228,32 @@ fn all_rounds(votes: &[u32], candidates: usize) -> Standings
     ensures { result ≡ definitions.result candidates votes.now }
 {
     let mut s = start();
-    let mut n: usize = 0;
-    while n < candidates {
+    for _n in 0..candidates {
         if s.over {
             return s;
         }
-        let after = next(votes, candidates, s);
-        s = after;
-        n += 1;
+        s = next(votes, candidates, s);
     }
     s
 }
 
 // ---- what is counted apart
 
-fn one_if(test: bool) -> u64
-    ensures { (result ≡ one_if test) × (result ≤ 1) }
-{
-    if test {
-        return 1;
-    }
-    0
-}
-
 // Whether a vote is spoiled: with nobody gone every valid vote counts.
 fn is_spoiled(vote: u32, candidates: usize) -> bool
     requires { candidates ≤ 9 }
     ensures { result ≡ spoiled candidates vote }
 {
-    if vote == 0 {
-        return false;
-    }
     let nobody = [0u32; MOST_CANDIDATES];
-    counts_for(vote, candidates, &nobody) == 0
+    let blank = vote == 0;
+    !blank && counts_for(vote, candidates, &nobody).is_none()
 }
 
 // How many votes are blank.
 pub(crate) fn blank_votes(votes: &[u32]) -> u64
     ensures { result ≡ definitions.blank_votes votes.now }
 {
-    let mut blank: u64 = 0;
-    let mut i: usize = 0;
-    while i < votes.len() {
-        blank += one_if(votes[i] == 0);
-        i += 1;
-    }
-    blank
+    votes.iter().filter(|&&vote| vote == 0).count() as u64
 }
 
 // How many votes are spoiled.
@@ -320,94 +261,61 @@ pub(crate) fn spoiled_votes(votes: &[u32], candidates: usize) -> u64
     requires { candidates ≤ 9 }
     ensures { result ≡ definitions.spoiled_votes candidates votes.now }
 {
-    let mut spoiled: u64 = 0;
-    let mut i: usize = 0;
-    while i < votes.len() {
-        spoiled += one_if(is_spoiled(votes[i], candidates));
-        i += 1;
-    }
-    spoiled
+    votes
+        .iter()
+        .filter(|&&vote| is_spoiled(vote, candidates))
+        .count() as u64
 }
 
 // ---- the table
 
-// The entries of the table, for as many candidates as there may be.
-fn entries(
-    counts: [u64; MOST_CANDIDATES],
-    left: [u32; MOST_CANDIDATES],
-) -> [Candidate; MOST_CANDIDATES]
-    ensures { result ≡ definitions.entries counts left }
+// Fills a table with the candidates' entries.
+fn fill(table: &mut [Candidate], s: Standings)
+    requires { length table.old ≤ 9 }
+    ensures { table.new ≡ take (length table.old) (definitions.entries s.counts s.left) }
 {
-    let mut table = [Candidate { count: 0, left: 0 }; MOST_CANDIDATES];
-    let mut i: usize = 0;
-    while i < MOST_CANDIDATES {
+    let counts = s.counts;
+    let left = s.left;
+    for i in 0..table.len() {
         table[i] = Candidate {
             count: counts[i],
             left: left[i],
         };
-        i += 1;
     }
-    table
 }
 
-// What the runoff refuses, by number.
-pub fn refuse(candidates: usize, table_len: usize) -> u32
-    ensures { result ≡ definitions.runoff_refusal candidates table_len }
+// What the runoff refuses.
+pub fn refuse(candidates: usize, table_len: usize) -> Result<(), Rule>
+    ensures { number_in result ≡ definitions.runoff_refusal candidates table_len }
 {
-    if candidates < 1 {
-        return 20;
-    }
-    if MOST_CANDIDATES < candidates {
-        return 20;
+    if !(1..=MOST_CANDIDATES).contains(&candidates) {
+        return Err(Rule::Candidates);
     }
     if table_len != candidates {
-        return 18;
+        return Err(Rule::Length);
     }
-    0
+    Ok(())
 }
 
-// The answer, and the entries that a table of so many is filled with: none where it is refused.
-fn run(votes: &[u32], candidates: usize, table_len: usize) -> Report
-    ensures { Ran candidates votes.now table_len result }
+// A candidate by number, 0 for none.
+pub(crate) fn by_number(k: u32) -> Option<u32>
+    ensures { result ≡ candidate k }
 {
-    let k = refuse(candidates, table_len);
-    if k != 0 {
-        return Report {
-            answer: Runoff::Refused(k),
-            entries: 0,
-            table: [Candidate { count: 0, left: 0 }; MOST_CANDIDATES],
-        };
-    }
-    let s = all_rounds(votes, candidates);
-    let blank = blank_votes(votes);
-    let spoiled = spoiled_votes(votes, candidates);
-    let counts = s.counts;
-    let left = s.left;
-    Report {
-        answer: Runoff::Counted(s.winner, blank, spoiled),
-        entries: candidates,
-        table: entries(counts, left),
-    }
-}
-
-// Fills the first k entries of a table.
-fn fill(table: &mut [Candidate], from: [Candidate; MOST_CANDIDATES], k: usize)
-    requires { (k ≤ length table.old) × (k ≤ 9) }
-    ensures { table.new ≡ take k from ++ drop k table.old }
-{
-    let mut i: usize = 0;
-    while i < k {
-        table[i] = from[i];
-        i += 1;
-    }
+    if k == 0 { None } else { Some(k) }
 }
 
 // Entry: the winner of ranked votes by instant runoff, into a lent table each candidate's last count and round of leaving.
-pub fn run_off(votes: &[u32], candidates: usize, table: &mut [Candidate]) -> Runoff
+pub fn run_off(votes: &[u32], candidates: usize, table: &mut [Candidate]) -> Result<Counted, Rule>
     ensures answer { definitions.runoff_answer result ≡ definitions.ran_off candidates votes.now (length table.old) }
+    ensures winner { IfOk result (λ counted. counted.winner ≡ candidate (definitions.winner candidates votes.now)) }
     ensures table { table.new ≡ definitions.table_after candidates votes.now table.old }
 {
-    let ran = run(votes, candidates, table.len());
-    fill(table, ran.table, ran.entries);
-    ran.answer
+    refuse(candidates, table.len())?;
+    let s = all_rounds(votes, candidates);
+    fill(table, s);
+    Ok(Counted {
+        winner: by_number(s.winner),
+        blank: blank_votes(votes),
+        spoiled: spoiled_votes(votes, candidates),
+    })
 }

@@ -1,12 +1,12 @@
 // The page of a runoff: its rounds as a table, then the winner and what is counted apart.
 ghost use Rattle.std.specs.Prelude.{◌++◌, ◌≡◌, ◌+◌, ◌*◌, ◌≤◌, ◌<◌, length};
 ghost use Rattle.laws.specs.Writing.{Went};
-ghost use Rattle.runoff.specs.Rounds.{winner};
+ghost use Rattle.runoff.specs.Rounds.{candidate, winner};
 ghost use Rattle.runoff.specs.Rounds as rounds;
 ghost use Rattle.runoff.specs.Page as definitions;
-ghost use Rattle.runoff.specs.Told.{cell_most, line_most, most_round_lines, most_lines, RoundReady, LinesReady};
+ghost use Rattle.runoff.specs.Told.{cell_most, line_most, most_round_lines, most_lines, RoundReady, LinesReady, named_in};
 
-use crate::{MOST_CANDIDATES, Standings, blank_votes, next, spoiled_votes, start};
+use crate::{MOST_CANDIDATES, Standings, blank_votes, by_number, next, spoiled_votes, start};
 
 // Writes a candidate's number from a place on, and answers the next place.
 fn put_named(out: &mut [u8], at: usize, k: u32) -> usize
@@ -18,14 +18,14 @@ fn put_named(out: &mut [u8], at: usize, k: u32) -> usize
 }
 
 // The same, or a word where there is no candidate.
-fn put_named_or(out: &mut [u8], at: usize, word: &[u8], k: u32) -> usize
+fn put_named_or(out: &mut [u8], at: usize, word: &[u8], who: Option<u32>) -> usize
     requires { (at + 11 ≤ length out.old) × (length word.now ≤ 11) }
-    ensures { Went out.old at (definitions.named_or word.now k) out.new result }
+    ensures { Went out.old at (named_in word.now who) out.new result }
 {
-    if k == 0 {
-        return wire::copy(out, at, word);
+    match who {
+        Some(k) => put_named(out, at, k),
+        None => wire::copy(out, at, word),
     }
-    put_named(out, at, k)
 }
 
 // Writes the line over the columns.
@@ -34,10 +34,8 @@ fn put_header(out: &mut [u8], at: usize, candidates: usize) -> usize
     ensures { Went out.old at (definitions.header_line candidates) out.new result }
 {
     let mut next = wire::copy(out, at, b"ROUND");
-    let mut i: usize = 0;
-    while i < candidates {
+    for i in 0..candidates {
         next = put_header_cell(out, next, i);
-        i += 1;
     }
     wire::copy(out, next, b"\tLEAVES\n")
 }
@@ -56,10 +54,7 @@ fn put_count_cell(out: &mut [u8], at: usize, round: u32, left: u32, count: u32) 
     ensures { Went out.old at (definitions.count_cell round left count) out.new result }
 {
     let next = wire::put1(out, at, 9);
-    if left == 0 {
-        return decimals::put_decimal(out, next, count);
-    }
-    if left == round {
+    if left == 0 || left == round {
         return decimals::put_decimal(out, next, count);
     }
     wire::copy(out, next, b"-")
@@ -74,27 +69,21 @@ fn put_counts(out: &mut [u8], at: usize, candidates: usize, s: Standings) -> usi
     let left = s.left;
     let counts = s.counts;
     let mut next = at;
-    let mut i: usize = 0;
-    while i < candidates {
+    for i in 0..candidates {
         next = put_count_cell(out, next, round, left[i], counts[i] as u32);
-        i += 1;
     }
     next
 }
 
-// Who has left in a round; 0 for none.
-fn leaver_among(left: &[u32; MOST_CANDIDATES], round: u32, candidates: usize) -> usize
+// Who has left in a round.
+fn leaver_among(left: &[u32; MOST_CANDIDATES], round: u32, candidates: usize) -> Option<u32>
     requires { candidates ≤ 9 }
-    ensures { (result ≡ definitions.leaver_among left.now round candidates) × (result ≤ candidates) }
+    ensures { result ≡ candidate (definitions.leaver_among left.now round candidates) }
 {
-    let mut leaver: usize = 0;
-    let mut n: usize = 0;
-    while n < candidates {
-        if left[n] == round {
-            leaver = n + 1;
-            n += 1;
-        } else {
-            n += 1;
+    let mut leaver = None;
+    for (n, &gone) in left[..candidates].iter().enumerate() {
+        if gone == round {
+            leaver = Some(n as u32 + 1);
         }
     }
     leaver
@@ -110,7 +99,7 @@ fn put_round(out: &mut [u8], at: usize, candidates: usize, s: Standings) -> usiz
     let left = s.left;
     let leaver = leaver_among(&left, s.rounds, candidates);
     let tab = wire::put1(out, counted, 9);
-    let end = put_named_or(out, tab, b"-", leaver as u32);
+    let end = put_named_or(out, tab, b"-", leaver);
     wire::put1(out, end, 10)
 }
 
@@ -120,7 +109,7 @@ fn put_winner(out: &mut [u8], at: usize, k: u32) -> usize
     ensures { Went out.old at (definitions.winner_line k) out.new result }
 {
     let word = wire::copy(out, at, b"WINNER\t");
-    let end = put_named_or(out, word, b"NONE", k);
+    let end = put_named_or(out, word, b"NONE", by_number(k));
     wire::put1(out, end, 10)
 }
 
@@ -142,15 +131,12 @@ fn put_rounds(votes: &[u32], candidates: usize, out: &mut [u8], at: usize) -> us
 {
     let mut to = at;
     let mut s = start();
-    let mut n: usize = 0;
-    while n < candidates {
+    for _n in 0..candidates {
         if s.over {
             return put_winner(out, to, s.winner);
         }
-        let after = next(votes, candidates, s);
-        s = after;
+        s = next(votes, candidates, s);
         to = put_round(out, to, candidates, s);
-        n += 1;
     }
     put_winner(out, to, s.winner)
 }

@@ -5,7 +5,7 @@ use mathlib.Core.Bool.{Bool, true, false}
 use Prim.Native.Nat.{ℕ, ◌+◌, ◌-◌, ◌*◌, ◌/◌, ◌%◌, ◌≤◌, ◌<◌}
 use native.Mathlib.Decide.{ℕ_discrete, dec_lt}
 use native.Mathlib.Omega.{arith}
-use Rattle.laws.specs.Tests.{at_most, ◌and◌, every, at_most_iff, and_iff, every_iff}
+use Rattle.laws.specs.Tests.{at_most, ◌and◌, every, at_most_iff, and_iff, every_iff, and_go, never, refuted}
 use Rattle.protocol.specs.Terms.{item}
 use Rattle.schedule.specs.Dates.{leap, months, days_of_month, days_of_months, days_of_year, days_of_years, dated, exists, day_number, date_in, number_of}
 use Rattle.schedule.specs.declared.Date.{Date}
@@ -51,6 +51,27 @@ exists_is t e = let (year, rest) = (and_iff _ _).0 e in ((at_most_iff _ _).0 yea
 pub exists_by : (t : Date) → t.year ≤ 2199 → Dated t → exists t ≡ true
 unfolding exists
 exists_by t l v = (and_iff _ _).1 ((at_most_iff _ _).1 l, dated_by t v)
+
+-- the tests as code makes them
+module _ (t : Date) where
+  abbrev pub year_in : Bool
+  year_in = at_most 2000 t.year and at_most t.year 2199
+
+  abbrev pub month_in : Bool
+  month_in = at_most 1 t.month and at_most t.month 12
+
+  abbrev pub day_in : Bool
+  day_in = at_most 1 t.day and at_most t.day (days_of_month t.year t.month)
+
+  pub exists_if : {r : Bool} → year_in ≡ true → month_in ≡ true → r ≡ day_in → r ≡ exists t
+  unfolding exists dated
+  exists_if y m d = let (a, b) = (and_iff _ _).0 y in and_go _ _ b (and_go _ _ a (and_go _ _ m d))
+
+  pub exists_not : (year_in ≡ true → month_in ≡ false) → false ≡ exists t
+  exists_not h = sym (refuted _ (λ e.
+      let (high, v) = exists_is t e in
+      never ((and_iff _ _).1 ((at_most_iff _ _).1 v.first, (at_most_iff _ _).1 v.last))
+      (h ((and_iff _ _).1 ((at_most_iff _ _).1 v.low, (at_most_iff _ _).1 high)))))
 
 -- ---- sums of days grow
 

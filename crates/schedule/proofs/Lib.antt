@@ -1,4 +1,5 @@
 -- What the proofs of several functions use; then what the definitions mean.
+mod Ranges
 mod Prefixes
 mod Lengths
 mod Least

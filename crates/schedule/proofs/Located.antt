@@ -60,11 +60,16 @@ module _ {d year n : ℕ} (r : Reached d year) (is : n ≡ days_of_years ((year 
           let e : (year + 1) - 2000 ≡ 201 = omega (arith, r.high) in
           absurd (omega (arith, is, ap days_of_years e, years_days 201 (omega arith)))
 
-  pub last_year : d < n → year ≡ year_of d
-  last_year h =
+  pub this_year : d < n → year ≡ year_of d
+  this_year h =
       let one : (year + 1) - 2000 ≡ suc (year - 2000) = omega (arith, r.low) in
       let back : year ≡ 2000 + (year - 2000) = omega (arith, r.low) in
       back ∙ year_is d (year - 2000) (omega (arith, r.high)) r.from (λ l. omega (arith, is, ap days_of_years one))
+
+pub last_year : {d year : ℕ} → Reached d year → 2200 ≤ year → 2200 ≡ year_of d
+last_year {d} {year} r h =
+    let e : year ≡ 2200 = omega (arith, r.high) in
+    year_is d 200 (omega arith) (omega (arith, r.from, ap (λ (y : ℕ). days_of_years (y - 2000)) e)) (λ l. absurd (omega arith))
 
 -- the day of a year is not before this month
 pub record InYear (year d month : ℕ) : Type 0 where
@@ -82,8 +87,8 @@ module _ {year d month : ℕ} (r : InYear year d month) where
       let back : month ≡ 1 + (month - 1) = omega (arith, r.first) in
       back ∙ month_is year d (month - 1) (omega (arith, r.last)) r.from (λ l. to (omega arith))
 
-  pub last_month : 12 ≤ month → month ≡ month_of year d
-  last_month h = month_found (λ l. absurd (omega arith))
+  pub last_month : 12 ≤ month → 12 ≡ month_of year d
+  last_month h = let e : 12 ≡ month = omega (arith, r.last) in e ∙ month_found (λ l. absurd (omega arith))
 
   module _ {n : ℕ} (is : n ≡ days_of_months year ((month + 1) - 1)) where
     pub this_month : d < n → month ≡ month_of year d

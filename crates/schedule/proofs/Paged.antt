@@ -8,13 +8,13 @@ use native.Mathlib.Omega.{arith}
 use lib.ListN.{length, drop}
 use Rattle.laws.specs.Tests.{choose_clear, choose_set}
 use Rattle.laws.specs.Writing.{put, Went}
-use Rattle.protocol.specs.Answers.{done, refused, answer_of}
+use Rattle.std.specs.Prelude.{Ok, Err, Result}
+use Rattle.protocol.specs.declared.Rule.{Rule}
+use Rattle.protocol.specs.Answers.{done, refused, answer_of, rule_number}
 use Rattle.protocol.specs.Terms.{decimal}
 use Rattle.protocol.specs.Results.{refused_word, in_front}
 use Rattle.schedule.specs.declared.Date.{Date}
 use Rattle.schedule.specs.declared.Windows.{Windows}
-use Rattle.schedule.specs.declared.Schedule.{Schedule}
-use Rattle.schedule.specs.declared.Schedule.TheVariants as schedule
 use Rattle.schedule.specs.Windows.{windows, numbers, schedule_refusal, scheduled, schedule_answer}
 use Rattle.schedule.specs.Page.{window_lines, schedule_page}
 use Rattle.schedule.specs.Told.{SmallWindows}
@@ -38,8 +38,8 @@ unfolding answer_of
 answer_refused zero n v e = absurd (let z : ◌≡◌ {A = ℕ} 0 1 = cc in omega arith)
 answer_refused (suc k) n v e = (cc, λ z. omega arith)
 
-module _ (election : Date) (holidays : List ℕ) {r : Schedule} (is : schedule_answer r ≡ scheduled election holidays) where
-  module _ (w : Windows) (e : r ≡ schedule.Set w) where
+module _ (election : Date) (holidays : List ℕ) {r : Result Windows Rule} (is : schedule_answer r ≡ scheduled election holidays) where
+  module _ (w : Windows) (e : r ≡ Ok w) where
     set_is : (schedule_refusal election holidays ≡ 0) × (w ≡ windows election holidays)
     unfolding scheduled
     set_is = answer_set _ _ _ (sym (ap schedule_answer e) ∙ is)
@@ -55,15 +55,15 @@ module _ (election : Date) (holidays : List ℕ) {r : Schedule} (is : schedule_a
         → (out ≡ in_front (schedule_page election holidays) l) × (n ≡ length (schedule_page election holidays))
     set_page h = front h lines_are
 
-  module _ (k : ℕ) (e : r ≡ schedule.Refused k) where
-    refused_is : (k ≡ schedule_refusal election holidays) × (schedule_refusal election holidays ≢ 0)
+  module _ (k : Rule) (e : r ≡ Err k) where
+    refused_is : (rule_number k ≡ schedule_refusal election holidays) × (schedule_refusal election holidays ≢ 0)
     unfolding scheduled
     refused_is = answer_refused _ _ _ (sym (ap schedule_answer e) ∙ is)
 
-    line_is : refused_word ++ (decimal k ++ (10 ∷ [])) ≡ schedule_page election holidays
+    line_is : {n : ℕ} → n ≡ rule_number k → refused_word ++ (decimal n ++ (10 ∷ [])) ≡ schedule_page election holidays
     unfolding schedule_page
-    line_is = rw refused_is.0 (sym (choose_set _ _ _ refused_is.1))
+    line_is number = rw (number ∙ refused_is.0) (sym (choose_set _ _ _ refused_is.1))
 
-    pub refused_page : {l out : List ℕ} {n : ℕ} → Went l 0 (refused_word ++ (decimal k ++ (10 ∷ []))) out n
-        → (out ≡ in_front (schedule_page election holidays) l) × (n ≡ length (schedule_page election holidays))
-    refused_page h = front h line_is
+    pub refused_page : {l out : List ℕ} {n r : ℕ} → n ≡ rule_number k → Went l 0 (refused_word ++ (decimal n ++ (10 ∷ []))) out r
+        → (out ≡ in_front (schedule_page election holidays) l) × (r ≡ length (schedule_page election holidays))
+    refused_page number h = front h (line_is number)

@@ -9,13 +9,14 @@ use native.Mathlib.Omega.{arith}
 use lib.ListN.{length}
 use Rattle.laws.specs.Tests.{below, ◌and◌, every, is_equal, not_equal, is_below, not_below, is_differ, not_differ}
 use Rattle.laws.specs.Tests.{and_iff, and_go, and_stop, and_last, and_last_stop, or_go, or_stop, every_more, every_stop}
+use Rattle.std.specs.Prelude.{Ok, Err}
+use Rattle.protocol.specs.declared.Rule.TheVariants.{Day}
 use Rattle.protocol.specs.Terms.{item}
 use Rattle.schedule.specs.Dates.{exists, date_in}
 use Rattle.schedule.specs.Working.{weekday, holiday, working_but, working}
 use Rattle.schedule.specs.Windows.{in_turn, days_after}
 use Rattle.schedule.specs.Told.{from_next, weekday_from, moved, planned_on}
 use Rattle.schedule.specs.declared.Days.{Days}
-use Rattle.schedule.specs.declared.Planned.TheVariants.{On, Refused}
 use Rattle.schedule.proofs.Dating.{exists_below}
 use Rattle.schedule.proofs.Planning.{Plan, Clear, More, plan_more, plan_found, next_clear, next_plan}
 
@@ -104,19 +105,19 @@ module _ (holidays : List ℕ) where
 
   -- ---- what is answered
 
-  pub refused_missing : (d i : ℕ) → i < length holidays → exists (date_in (item holidays i)) ≡ false → Refused 22 ≡ planned_on d holidays
+  pub refused_missing : (d i : ℕ) → i < length holidays → exists (date_in (item holidays i)) ≡ false → Err Day ≡ planned_on d holidays
   unfolding planned_on
   refused_missing d i l e = rw (sym (every_stop (in_turn holidays) (length holidays) i l (missing i e)))
 
   pub refused_late : (d : ℕ) {s : Days} {least i h : ℕ} → Passed d s least i → i < length holidays → exists (date_in (item holidays i)) ≡ true
-      → h ≡ holiday holidays i → h < least → Refused 22 ≡ planned_on d holidays
+      → h ≡ holiday holidays i → h < least → Err Day ≡ planned_on d holidays
   unfolding planned_on
   refused_late d {s} {least} {i} {h} p l e same o =
       rw (sym (every_stop (in_turn holidays) (length holidays) i l (late i e (omega (arith, p.low)))))
 
-  pub all_passed : (d : ℕ) {s : Days} {least i : ℕ} → Passed d s least i → i ≡ length holidays → On s ≡ planned_on d holidays
+  pub all_passed : (d : ℕ) {s : Days} {least i : ℕ} → Passed d s least i → i ≡ length holidays → Ok s ≡ planned_on d holidays
   unfolding planned_on working
   all_passed d {s} {least} {i} p e =
       let turn : every (in_turn holidays) (length holidays) ≡ true = rw (sym e) p.turn in
       let found : s ≡ days_after (working_but holidays (length holidays)) d = rw (sym e) (plan_found (working_but holidays i) d s p.plan) in
-      rw turn (ap On found)
+      rw turn (ap Ok found)

@@ -1,13 +1,13 @@
 -- What inner functions are told and tell: the days of the windows, by weekdays alone where no holiday is ahead, and with one holiday more.
-use Rattle.std.specs.Prelude.{List, ℕ, ◌+◌, ◌-◌, ◌*◌, ◌≤◌, ◌<◌, length}
+use Rattle.std.specs.Prelude.{List, ℕ, ◌+◌, ◌-◌, ◌*◌, ◌≤◌, ◌<◌, Result, Ok, Err, length}
 use Rattle.laws.specs.Tests.{equal, below, every, pick}
+use Rattle.protocol.specs.declared.Rule.{Rule}
+use Rattle.protocol.specs.declared.Rule.TheVariants as broken
 use Rattle.schedule.specs.Dates.{day_number, exists}
 use Rattle.schedule.specs.Working.{weekday, working}
 use Rattle.schedule.specs.Windows.{days_after, in_turn}
 use Rattle.schedule.specs.declared.Date.{Date}
 use Rattle.schedule.specs.declared.Days.{Days}
-use Rattle.schedule.specs.declared.Planned.{Planned}
-use Rattle.schedule.specs.declared.Planned.TheVariants as planned
 use Rattle.schedule.specs.declared.Window.{Window}
 use Rattle.schedule.specs.declared.Windows.{Windows}
 
@@ -35,11 +35,11 @@ moved s h =
     (pick (equal h s.last) (record { next = s.next; first = s.first; second = s.second; last = after }) s)))
 
 -- the days of the windows of an election on day d; or 22
-unfoldable pub planned_on : ℕ → List ℕ → Planned
-planned_on d holidays = pick (every (in_turn holidays) (length holidays)) (planned.On (days_after (working holidays) d)) (planned.Refused 22)
+unfoldable pub planned_on : ℕ → List ℕ → Result Days Rule
+planned_on d holidays = pick (every (in_turn holidays) (length holidays)) (Ok (days_after (working holidays) d)) (Err broken.Day)
 
-unfoldable pub plan : Date → List ℕ → Planned
-plan election holidays = pick (exists election) (planned_on (day_number election) holidays) (planned.Refused 22)
+unfoldable pub plan : Date → List ℕ → Result Days Rule
+plan election holidays = pick (exists election) (planned_on (day_number election) holidays) (Err broken.Day)
 
 -- ---- the page
 

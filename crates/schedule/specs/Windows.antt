@@ -1,19 +1,18 @@
 -- Document 02, item 7: the four windows of an election, and what is answered.
-use Rattle.std.specs.Prelude.{Bool, List, [], ◌∷◌, ℕ, ◌+◌, ◌-◌, ◌*◌, length}
+use Rattle.std.specs.Prelude.{Bool, List, [], ◌∷◌, ℕ, ◌+◌, ◌-◌, ◌*◌, Option, None, Some, Result, length}
 use Rattle.laws.specs.Tests.{equal, below, at_most, ◌and◌, ◌or◌, every, pick}
 use Rattle.laws.specs.Faults.{rule, kept}
 use Rattle.protocol.specs.Terms.{item}
-use Rattle.protocol.specs.Answers.{Answer, done, refused, answer_of}
+use Rattle.protocol.specs.declared.Rule.{Rule}
+use Rattle.protocol.specs.Answers.{Answer, answer_of, answer_in}
 use Rattle.schedule.specs.Dates.{exists, date_in, day_number}
 use Rattle.schedule.specs.Working.{holiday, working, kth_after}
 use Rattle.schedule.specs.declared.Date.{Date}
 use Rattle.schedule.specs.declared.Days.{Days}
 use Rattle.schedule.specs.declared.Window.{Window}
 use Rattle.schedule.specs.declared.Windows.{Windows}
-use Rattle.schedule.specs.declared.Schedule.{Schedule}
-use Rattle.schedule.specs.declared.Schedule.TheVariants as schedule
-use Rattle.schedule.specs.declared.Minute.{Minute}
-use Rattle.schedule.specs.declared.Minute.TheVariants as minute
+use Rattle.schedule.specs.declared.Phase.{Phase}
+use Rattle.schedule.specs.declared.Phase.TheVariants as phase
 
 -- ---- the days, whichever days are working days
 
@@ -85,10 +84,18 @@ unfoldable pub window_at : Date → List ℕ → ℕ → Answer
 window_at election holidays m = answer_of (schedule_refusal election holidays) (window_of (windows election holidays) m ∷ [])
 
 -- this paper's number and values for each of the enums' cases
-abbrev pub schedule_answer : Schedule → Answer
-schedule_answer (schedule.Set w) = done (numbers w)
-schedule_answer (schedule.Refused k) = refused k
+abbrev pub schedule_answer : Result Windows Rule → Answer
+schedule_answer = answer_in numbers
 
-abbrev pub minute_answer : Minute → Answer
-minute_answer (minute.Window k) = done (k ∷ [])
-minute_answer (minute.Refused k) = refused k
+abbrev pub phase_number : Phase → ℕ
+phase_number phase.Polling = 1
+phase_number phase.FirstDice = 2
+phase_number phase.SecondDice = 3
+phase_number phase.Objections = 4
+
+abbrev pub phase_in : Option Phase → ℕ
+phase_in None = 0
+phase_in (Some phase) = phase_number phase
+
+abbrev pub minute_answer : Result (Option Phase) Rule → Answer
+minute_answer = answer_in (λ window. phase_in window ∷ [])

@@ -8,23 +8,14 @@ use crate::Date;
 fn is_leap(year: u32) -> bool
     ensures { result ≡ definitions.leap year }
 {
-    if year % 400 == 0 {
-        return true;
-    }
-    if year % 4 != 0 {
-        return false;
-    }
-    year % 100 != 0
+    year % 400 == 0 || (year % 4 == 0 && year % 100 != 0)
 }
 
 // 1 for a leap year.
 fn leap_day(year: u32) -> u32
     ensures { (result ≡ one_if (definitions.leap year)) × (result ≤ 1) }
 {
-    if is_leap(year) {
-        return 1;
-    }
-    0
+    u32::from(is_leap(year))
 }
 
 fn days_of_month(year: u32, month: u32) -> u32
@@ -32,9 +23,10 @@ fn days_of_month(year: u32, month: u32) -> u32
     ensures { (result ≡ definitions.days_of_month year month) × (result ≤ 31) }
 {
     if month == 2 {
-        return 28 + leap_day(year);
+        28 + leap_day(year)
+    } else {
+        30 + (month + month / 8) % 2
     }
-    30 + (month + month / 8) % 2
 }
 
 // The days of the months before this one. From March on they are those of months that are 367 twelfths of a day long, less two days of
@@ -44,9 +36,10 @@ fn days_before_month(year: u32, month: u32) -> u32
     ensures { (result ≡ definitions.days_of_months year (month - 1)) × (result ≤ 335) }
 {
     if month < 3 {
-        return 31 * (month - 1);
+        31 * (month - 1)
+    } else {
+        (367 * month - 386) / 12 + leap_day(year)
     }
-    (367 * month - 386) / 12 + leap_day(year)
 }
 
 // The days of the years from 2000 to the one before this.
@@ -58,33 +51,13 @@ fn days_before_year(year: u32) -> u32
     y * 365 + (y + 3) / 4 + (y + 399) / 400 - (y + 99) / 100
 }
 
-// Whether the month has that day.
-fn is_dated(date: Date) -> bool
-    ensures { result ≡ definitions.dated date }
-{
-    if date.year < 2000 {
-        return false;
-    }
-    if date.month < 1 {
-        return false;
-    }
-    if 12 < date.month {
-        return false;
-    }
-    if date.day < 1 {
-        return false;
-    }
-    date.day <= days_of_month(date.year, date.month)
-}
-
 // Whether a date exists from 2000 to 2199.
 pub(crate) fn exists(date: Date) -> bool
     ensures { result ≡ definitions.exists date }
 {
-    if 2199 < date.year {
-        return false;
-    }
-    is_dated(date)
+    (2000..=2199).contains(&date.year)
+        && (1..=12).contains(&date.month)
+        && (1..=days_of_month(date.year, date.month)).contains(&date.day)
 }
 
 // The number of a date.
@@ -111,11 +84,12 @@ fn year_of(day: u32) -> u32
     requires { day < 73414 }
     ensures { (result ≡ definitions.year_of day) × ((2000 ≤ result) × (result ≤ 2200)) }
 {
-    let mut year: u32 = 2000;
-    while days_before_year(year + 1) <= day {
-        year += 1;
+    for year in 2000..2200 {
+        if day < days_before_year(year + 1) {
+            return year;
+        }
     }
-    year
+    2200
 }
 
 // The month of a year that has its day, the first day being 0.
@@ -123,14 +97,12 @@ fn month_of(year: u32, day: u32) -> u32
     requires { day < definitions.days_of_year year }
     ensures { (result ≡ definitions.month_of year day) × ((1 ≤ result) × (result ≤ 12)) }
 {
-    let mut month: u32 = 1;
-    while month < 12 {
+    for month in 1..12 {
         if day < days_before_month(year, month + 1) {
             return month;
         }
-        month += 1;
     }
-    month
+    12
 }
 
 // The date of a day.
@@ -142,8 +114,8 @@ pub(crate) fn date_of(day: u32) -> Date
     let rest = day - days_before_year(year);
     let month = month_of(year, rest);
     Date {
-        year: year,
-        month: month,
+        year,
+        month,
         day: 1 + (rest - days_before_month(year, month)),
     }
 }

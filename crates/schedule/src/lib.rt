@@ -9,6 +9,8 @@ ghost use Rattle.schedule.specs.Windows as definitions;
 ghost use Rattle.schedule.specs.Told.{weekday_from, from_second, from_first, from_next, moved, planned_on};
 ghost use Rattle.schedule.specs.Told as told;
 
+use protocol::Rule;
+
 // A date of the Gregorian calendar, where it exists.
 #[derive(Clone, Copy)]
 pub struct Date {
@@ -43,25 +45,22 @@ pub struct Windows {
     pub objections: Window,
 }
 
-// The answer of the calendar.
+// What a window is for, by the order of the numbers, 1 to 4.
 #[derive(Clone, Copy)]
-pub enum Schedule {
-    Set(Windows),
-    Refused(u32),
+pub enum Phase {
+    Polling = 1,
+    FirstDice,
+    SecondDice,
+    Objections,
 }
 
-// The window that a minute is in: 1 polling, 2 first dice, 3 second dice, 4 objections, 0 none.
-#[derive(Clone, Copy)]
-pub enum Minute {
-    Window(u32),
-    Refused(u32),
-}
-
-// The days of the windows, or the number of a refusal.
-#[derive(Clone, Copy)]
-pub enum Planned {
-    On(Days),
-    Refused(u32),
+impl Phase {
+    // Its number.
+    pub fn number(self) -> u32
+        ensures { result ≡ definitions.phase_number self }
+    {
+        self as u32
+    }
 }
 
 // ---- the days of the windows
@@ -72,10 +71,7 @@ fn weekday_from(day: u32) -> u32
     ensures { (result ≡ weekday_from day) × (result ≤ day + 2) }
 {
     let w = (day + 5) % 7;
-    if w < 5 {
-        return day;
-    }
-    day + (7 - w)
+    if w < 5 { day } else { day + (7 - w) }
 }
 
 // The days, where there is no holiday after the second dice's.
@@ -84,9 +80,9 @@ fn from_second(next: u32, first: u32, second: u32) -> Days
     ensures { result ≡ from_second next first second }
 {
     Days {
-        next: next,
-        first: first,
-        second: second,
+        next,
+        first,
+        second,
         last: second + 14,
     }
 }
@@ -114,57 +110,47 @@ fn move_days(s: Days, holiday: u32) -> Days
 {
     let after = weekday_from(holiday + 1);
     if holiday == s.next {
-        return from_next(after);
+        from_next(after)
+    } else if holiday == s.first {
+        from_first(s.next, after)
+    } else if holiday == s.second {
+        from_second(s.next, s.first, after)
+    } else if holiday == s.last {
+        Days { last: after, ..s }
+    } else {
+        s
     }
-    if holiday == s.first {
-        return from_first(s.next, after);
-    }
-    if holiday == s.second {
-        return from_second(s.next, s.first, after);
-    }
-    if holiday == s.last {
-        return Days {
-            next: s.next,
-            first: s.first,
-            second: s.second,
-            last: after,
-        };
-    }
-    s
 }
 
 // The days of the windows of an election on this day, by one pass over the holidays. What is planned is always right for the holidays met
 // so far.
-fn plan_on(day: u32, holidays: &[u32]) -> Planned
+fn plan_on(day: u32, holidays: &[u32]) -> Result<Days, Rule>
     requires { day ≤ 73048 }
     ensures { result ≡ planned_on day holidays.now }
 {
     let mut s = from_next(weekday_from(day + 1));
     let mut least: u32 = 0;
-    let mut i: usize = 0;
-    while i < holidays.len() {
-        let date = dates::date_in(holidays[i]);
+    for number in holidays {
+        let date = dates::date_in(*number);
         if !dates::exists(date) {
-            return Planned::Refused(22);
+            return Err(Rule::Day);
         }
         let holiday = dates::day_number(date);
         if holiday < least {
-            return Planned::Refused(22);
+            return Err(Rule::Day);
         }
-        let t = move_days(s, holiday);
-        s = t;
+        s = move_days(s, holiday);
         least = holiday + 1;
-        i += 1;
     }
-    Planned::On(s)
+    Ok(s)
 }
 
 // The days of the windows of an election on this date.
-pub(crate) fn plan(election: Date, holidays: &[u32]) -> Planned
+pub(crate) fn plan(election: Date, holidays: &[u32]) -> Result<Days, Rule>
     ensures { result ≡ told.plan election holidays.now }
 {
     if !dates::exists(election) {
-        return Planned::Refused(22);
+        return Err(Rule::Day);
     }
     plan_on(dates::day_number(election), holidays)
 }
@@ -203,13 +189,11 @@ fn windows_on(day: u32, s: Days) -> Windows
 }
 
 // Entry: the four windows of an election.
-pub fn four_windows(election: Date, holidays: &[u32]) -> Schedule
+pub fn four_windows(election: Date, holidays: &[u32]) -> Result<Windows, Rule>
     ensures { definitions.schedule_answer result ≡ definitions.scheduled election holidays.now }
 {
-    match plan(election, holidays) {
-        Planned::On(s) => Schedule::Set(windows_on(dates::day_number(election), s)),
-        Planned::Refused(k) => Schedule::Refused(k),
-    }
+    let days = plan(election, holidays)?;
+    Ok(windows_on(dates::day_number(election), days))
 }
 
 // ---- a minute
@@ -218,37 +202,30 @@ pub fn four_windows(election: Date, holidays: &[u32]) -> Schedule
 fn is_inside(w: Window, minute: u64) -> bool
     ensures { result ≡ definitions.inside w minute }
 {
-    if minute < w.start {
-        return false;
-    }
-    minute < w.end
+    (w.start..w.end).contains(&minute)
 }
 
-// The number of the window that a minute is in, 0 for none.
-fn window_of(w: Windows, minute: u64) -> u32
-    ensures { result ≡ definitions.window_of w minute }
+// The window that a minute is in.
+fn window_of(w: Windows, minute: u64) -> Option<Phase>
+    ensures { definitions.phase_in result ≡ definitions.window_of w minute }
 {
     if is_inside(w.polling, minute) {
-        return 1;
+        Some(Phase::Polling)
+    } else if is_inside(w.first, minute) {
+        Some(Phase::FirstDice)
+    } else if is_inside(w.second, minute) {
+        Some(Phase::SecondDice)
+    } else if is_inside(w.objections, minute) {
+        Some(Phase::Objections)
+    } else {
+        None
     }
-    if is_inside(w.first, minute) {
-        return 2;
-    }
-    if is_inside(w.second, minute) {
-        return 3;
-    }
-    if is_inside(w.objections, minute) {
-        return 4;
-    }
-    0
 }
 
 // Entry: the window of an election that a minute is in.
-pub fn window_at(election: Date, holidays: &[u32], minute: u64) -> Minute
+pub fn window_at(election: Date, holidays: &[u32], minute: u64) -> Result<Option<Phase>, Rule>
     ensures { definitions.minute_answer result ≡ definitions.window_at election holidays.now minute }
 {
-    match four_windows(election, holidays) {
-        Schedule::Set(w) => Minute::Window(window_of(w, minute)),
-        Schedule::Refused(k) => Minute::Refused(k),
-    }
+    let windows = four_windows(election, holidays)?;
+    Ok(window_of(windows, minute))
 }

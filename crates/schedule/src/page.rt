@@ -7,7 +7,7 @@ ghost use Rattle.schedule.specs.Page as definitions;
 ghost use Rattle.schedule.specs.Told.{moment_most, page_most, SmallWindows, NameReady, EndReady, LineReady};
 
 use crate::dates::date_of;
-use crate::{Date, Schedule, Window, Windows, four_windows};
+use crate::{Date, Window, Windows, four_windows};
 
 // The most bytes that a page may have: four lines of a word, a moment, a tab, a moment and the line's end.
 pub const LONGEST_PAGE: usize = 4 * (12 + 20 + 1 + 20 + 1);
@@ -118,7 +118,7 @@ pub fn put_page(election: Date, holidays: &[u32], out: &mut [u8; LONGEST_PAGE]) 
     ensures answer { result ≡ length (definitions.schedule_page election holidays.now) }
 {
     match four_windows(election, holidays) {
-        Schedule::Set(w) => put_windows(out, w),
-        Schedule::Refused(k) => decimals::put_refused(k, out),
+        Ok(w) => put_windows(out, w),
+        Err(rule) => decimals::put_refused(rule.number(), out),
     }
 }

@@ -8,9 +8,9 @@ ghost use Rattle.protocol.specs.Record.{parameters_of};
 ghost use Rattle.protocol.specs.Judging.{first_fault};
 ghost use Rattle.protocol.specs.Results as definitions;
 ghost use Rattle.scrutineer.specs.Lengths.{page_most};
+ghost use Rattle.laws.specs.Faults.{Nothing};
 
-use input::{Input, LONGEST_RECORD};
-use laws::Found;
+use input::LONGEST_RECORD;
 use protocol::MOST_BALLOTS;
 use std::io;
 use std::io::Write;
@@ -22,7 +22,7 @@ const LONGEST_PAGE: usize = 9 + 20 + 22 * MOST_BALLOTS;
 
 // Writes the page of an accepted record, and answers its length.
 fn put_accepted(bytes: &[u8], out: &mut [u8]) -> usize
-    requires { (first_fault true bytes.now ≡ Found.Nothing) × (page_most ≤ length out.old) }
+    requires { (first_fault true bytes.now ≡ Nothing) × (page_most ≤ length out.old) }
     ensures { let first = definitions.accepted_lines (parameters_of bytes.now).form in
         let lines = definitions.tally_lines (definitions.announced_votes bytes.now) in
         Went out.old 0 (first ++ lines) out.new result }
@@ -43,8 +43,8 @@ pub fn put_page(bytes: &[u8], out: &mut [u8; LONGEST_PAGE]) -> usize
         return wire::copy(out, 0, b"TOO LONG\n");
     }
     match verifier::first_fault(bytes, true) {
-        Found::Nothing => put_accepted(bytes, out),
-        Found::Fault(number, _) => decimals::put_refused(number, out),
+        Ok(()) => put_accepted(bytes, out),
+        Err(fault) => decimals::put_refused(fault.rule.number(), out),
     }
 }
 
@@ -77,7 +77,7 @@ fn print_page<W: Write>(out: &mut W, bytes: &[u8]) -> io::Result<()>
 fn main(rt: HostRuntime) -> io::Result<()> {
     let mut record = buffer();
     match input::read_input(&mut rt.stdin(), &mut record) {
-        Input::Bytes(n) => print_page(&mut rt.stdout(), &record[..n]),
-        Input::Unreadable => eprintln!(rt; "standard input cannot be read"),
+        Ok(n) => print_page(&mut rt.stdout(), &record[..n]),
+        Err(_) => eprintln!(rt; "standard input cannot be read"),
     }
 }

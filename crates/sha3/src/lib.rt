@@ -71,6 +71,7 @@ fn absorb_into(l: &mut [u64; 25], filled: usize, rate: usize, p: &[u8]) -> usize
 {
     let mut fill = filled;
     let mut i: usize = 0;
+    // a `while`: i moves on by a block, a lane, half a lane or a byte
     while i < p.len() {
         if fill == 0 && rate <= p.len() - i {
             add_block(l, rate, p, i);

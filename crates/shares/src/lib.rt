@@ -11,13 +11,11 @@ pub fn share(modulus: u32, whole: u32, x: u32, y: u32, k: usize) -> u32
     requires { (whole < modulus) × ((x < modulus) × (y < modulus)) }
     ensures { (result ≡ tablet.share modulus whole x y k) × (result < modulus) }
 {
-    if k == 0 {
-        return x;
+    match k {
+        0 => x,
+        1 => y,
+        _ => modular::less_two(modulus, whole, x, y),
     }
-    if k == 1 {
-        return y;
-    }
-    modular::less_two(modulus, whole, x, y)
 }
 
 // Three numbers, each split by its first half: u1, v1, u2, v2, u3, v3.

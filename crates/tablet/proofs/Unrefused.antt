@@ -1,5 +1,5 @@
 -- The six tests of a vote's numbers, and what is not refused.
-use mathlib.Core.Path.{◌≡◌, refl, sym, ◌∙◌}
+use mathlib.Core.Path.{◌≡◌, refl, sym}
 use mathlib.Core.Bool.{Bool, true, false}
 use mathlib.Core.List.{[], ◌∷◌}
 use Prim.Native.Nat.{ℕ}
@@ -22,11 +22,11 @@ pub six_below : (M a b c d e f : ℕ) → all_below M (a ∷ b ∷ c ∷ d ∷ e
 unfolding all_below every
 six_below M a b c d e f = simp (true_and, and_assoc)
 
-pub cast_ready : (M w x y u1 u2 u3 keys_long command_long receipt_long k : ℕ) → k ≡ tablet_refusal M w x y u1 u2 u3 keys_long command_long receipt_long → k ≡ 0
+pub cast_ready : (M w x y u1 u2 u3 keys_long command_long receipt_long : ℕ) → 0 ≡ tablet_refusal M w x y u1 u2 u3 keys_long command_long receipt_long
     → CastReady M w x y u1 u2 u3 keys_long command_long × (receipt_long ≡ 32)
 unfolding tablet_refusal
-cast_ready M w x y u1 u2 u3 keys_long command_long receipt_long k e z =
-    let (limits, (long, (small, rest))) = simp rules at (sym e ∙ z) in (
+cast_ready M w x y u1 u2 u3 keys_long command_long receipt_long e =
+    let (limits, (long, (small, rest))) = simp rules at (sym e) in (
       record {
         vote_below = small.0;
         x_below = small.1.0;

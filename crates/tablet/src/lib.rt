@@ -4,66 +4,55 @@
 ghost use Rattle.std.specs.Prelude.{[], ◌≡◌, length};
 ghost use Rattle.protocol.specs.Tablet as tablets;
 ghost use Rattle.protocol.specs.Tablet.{tablet_command, tablet_refusal};
-ghost use Rattle.protocol.specs.Answers.{written_answer, answer_of};
+ghost use Rattle.protocol.specs.Answers.{number_in, written_answer, answer_of};
 ghost use Rattle.protocol.specs.Refusals.{afterwards};
 ghost use Rattle.tablet.specs.Ready.{CastReady};
 
-use protocol::{Form, Parameters, Written};
+use protocol::{Form, Parameters, Rule};
 
-// The number of the first rule that a vote, its numbers or the lengths of what is lent break; 0 where none is broken.
-fn refuse(
-    modulus: u32,
+// What a vote is cut by: its first two shares, and the first half of each of the three.
+#[derive(Clone, Copy)]
+struct Cut {
     vote: u32,
     x: u32,
     y: u32,
     u1: u32,
     u2: u32,
     u3: u32,
+}
+
+// The first rule that a vote, its numbers or the lengths of what is lent break.
+fn refuse(
+    modulus: u32,
+    cut: Cut,
     keys_len: usize,
     command_len: usize,
     receipt_len: usize,
-) -> u32
-    ensures { result ≡ tablet_refusal modulus vote x y u1 u2 u3 keys_len command_len receipt_len }
+) -> Result<(), Rule>
+    ensures { let refused = tablet_refusal modulus cut.vote cut.x cut.y cut.u1 cut.u2 cut.u3 in
+        number_in result ≡ refused keys_len command_len receipt_len }
 {
     if !limits::modulus_in_limits(modulus) {
-        return 3;
+        return Err(Rule::Limits);
     }
-    if keys_len != 192 {
-        return 18;
+    if keys_len != 192 || command_len != 197 || receipt_len != 32 {
+        return Err(Rule::Length);
     }
-    if command_len != 197 {
-        return 18;
-    }
-    if receipt_len != 32 {
-        return 18;
-    }
-    let numbers = [vote, x, y, u1, u2, u3];
+    let numbers = [cut.vote, cut.x, cut.y, cut.u1, cut.u2, cut.u3];
     if !limits::all_below(modulus, &numbers) {
-        return 10;
+        return Err(Rule::Number);
     }
-    0
+    Ok(())
 }
 
 // The ballot command of a vote.
-fn put_command(
-    out: &mut [u8],
-    form: Form,
-    modulus: u32,
-    id: u32,
-    vote: u32,
-    x: u32,
-    y: u32,
-    u1: u32,
-    u2: u32,
-    u3: u32,
-    keys: &[u8],
-)
-    requires { CastReady modulus vote x y u1 u2 u3 (length keys.now) (length out.old) }
-    ensures { out.new ≡ tablet_command form modulus id vote x y u1 u2 u3 keys.now }
+fn put_command(out: &mut [u8], form: Form, modulus: u32, id: u32, cut: Cut, keys: &[u8])
+    requires { CastReady modulus cut.vote cut.x cut.y cut.u1 cut.u2 cut.u3 (length keys.now) (length out.old) }
+    ensures { out.new ≡ tablet_command form modulus id cut.vote cut.x cut.y cut.u1 cut.u2 cut.u3 keys.now }
 {
-    let z = modular::less_two(modulus, vote, x, y);
-    let value = [x, y, z];
-    let first = [u1, u2, u3];
+    let z = modular::less_two(modulus, cut.vote, cut.x, cut.y);
+    let value = [cut.x, cut.y, z];
+    let first = [cut.u1, cut.u2, cut.u3];
     let six = shares::split(modulus, value, first);
     let p = Parameters {
         form,
@@ -99,7 +88,7 @@ pub fn cast(
     keys: &[u8],
     command: &mut [u8],
     receipt: &mut [u8],
-) -> Written
+) -> Result<(), Rule>
     ensures { let refused = tablet_refusal modulus vote x y u1 u2 u3 in
         let k = refused (length keys.now) (length command.old) (length receipt.old) in
         let posted = tablet_command form modulus id vote x y u1 u2 u3 keys.now in
@@ -107,22 +96,16 @@ pub fn cast(
         (written_answer result ≡ answer_of k [])
         × ((command.new ≡ afterwards k command.old posted) × (receipt.new ≡ afterwards k receipt.old printed)) }
 {
-    let k = refuse(
-        modulus,
+    let cut = Cut {
         vote,
         x,
         y,
         u1,
         u2,
         u3,
-        keys.len(),
-        command.len(),
-        receipt.len(),
-    );
-    if k != 0 {
-        return Written::Refused(k);
-    }
-    put_command(command, form, modulus, id, vote, x, y, u1, u2, u3, keys);
+    };
+    refuse(modulus, cut, keys.len(), command.len(), receipt.len())?;
+    put_command(command, form, modulus, id, cut, keys);
     put_receipt(receipt, id, command);
-    Written::Done
+    Ok(())
 }

@@ -5,7 +5,7 @@ use mathlib.Core.Bool.{true, false}
 use mathlib.Core.List.{List, [], ◌∷◌, ◌++◌}
 use Prim.Native.Nat.{ℕ, ◌≤◌, ◌<◌}
 use lib.ListN.{length}
-use Rattle.laws.specs.declared.Found.TheVariants.{Nothing, Fault}
+use Rattle.laws.specs.Faults.{Nothing, Fault}
 use Rattle.laws.specs.Faults.{number_of, nothing_fault}
 use Rattle.laws.specs.Tests.{equal, at_most, ◌and◌, choose_clear, choose_set, is_equal, not_equal, is_at_most, not_at_most, and_iff, and_stop, and_last_stop}
 use Rattle.laws.specs.Writing.{Went}
@@ -33,9 +33,9 @@ module _ (candidates : ℕ) (form : Form) (votes : List ℕ) {k : ℕ} (is : k �
   counted_lines h = sym (choose_clear _ _ _ (sym is ∙ h))
 
 -- .. whose parameters were read
-pub counted_read : (candidates : ℕ) (r : List ℕ) {k : ℕ} {p : Parameters} → k ≡ runoff_refusal candidates candidates → k ≡ 0 → p ≡ parameters_of r
+pub counted_read : (candidates : ℕ) (r : List ℕ) {p : Parameters} → 0 ≡ runoff_refusal candidates candidates → p ≡ parameters_of r
     → accepted_lines p.form ++ runoff_lines candidates (announced_votes r) ≡ counted_page candidates (parameters_of r).form (announced_votes r)
-counted_read candidates r is z e = rw e (counted_lines candidates (parameters_of r).form (announced_votes r) is z)
+counted_read candidates r is e = rw e (counted_lines candidates (parameters_of r).form (announced_votes r) is refl)
 
 -- ---- of what was read
 

@@ -9,7 +9,7 @@ use native.Mathlib.Omega.{arith}
 use lib.ListN.{length, drop, get_or}
 use lib.Seq.{drop-cons, drop-length}
 use Rattle.laws.specs.Tests.{at_most, ◌and◌, is_at_most, not_at_most, and_iff, and_stop, and_last_stop}
-use Rattle.teller.specs.declared.Argument.TheVariants.{Number, Otherwise}
+use Rattle.std.specs.Prelude.{None, Some}
 use Rattle.teller.specs.Arguments.{said_from, said_by}
 
 module _ (l : List ℕ) where
@@ -18,11 +18,11 @@ module _ (l : List ℕ) where
     pub small : number ≤ 10
     pub goes : said_from number (drop i l) ≡ said_by l
 
-  pub empty_says : length l ≡ 0 → Otherwise ≡ said_by l
+  pub empty_says : length l ≡ 0 → None ≡ said_by l
   unfolding said_by
   empty_says = go l
     where
-      go : (l : List ℕ) → length l ≡ 0 → Otherwise ≡ said_by l
+      go : (l : List ℕ) → length l ≡ 0 → None ≡ said_by l
       go [] e = refl
       go (c ∷ cs) e = absurd (omega arith)
 
@@ -42,14 +42,14 @@ module _ (l : List ℕ) where
     abbrev is_digit : Bool
     is_digit = at_most 48 (get_or l i 0) and at_most (get_or l i 0) 57
 
-    other_says : is_digit ≡ false → Otherwise ≡ said_by l
+    other_says : is_digit ≡ false → None ≡ said_by l
     unfolding said_from
     other_says h = rw h at here
 
-    pub low_says : get_or l i 0 < 48 → Otherwise ≡ said_by l
+    pub low_says : get_or l i 0 < 48 → None ≡ said_by l
     low_says h = other_says (sym (and_stop _ _ (not_at_most h)))
 
-    pub high_says : 57 < get_or l i 0 → Otherwise ≡ said_by l
+    pub high_says : 57 < get_or l i 0 → None ≡ said_by l
     high_says h = other_says (sym (and_last_stop _ _ (not_at_most h)))
 
     digit_says : is_digit ≡ true → said_from (min 10 (number * 10 + (get_or l i 0 - 48))) (drop (suc i) l) ≡ said_by l
@@ -63,6 +63,6 @@ module _ (l : List ℕ) where
       goes = rw (e, add-one i) (digit_says ((and_iff _ _).1 (is_at_most a, is_at_most b)));
     }
 
-  pub all_said : {i number : ℕ} → Said i number → i ≡ length l → Number number ≡ said_by l
+  pub all_said : {i number : ℕ} → Said i number → i ≡ length l → Some number ≡ said_by l
   unfolding said_from
   all_said {i} {number} s e = ap (said_from number) (sym (ap (λ (n : ℕ). drop n l) e ∙ drop-length l)) ∙ s.goes

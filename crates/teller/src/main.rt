@@ -2,7 +2,7 @@
 // as many candidates as its argument says.
 #![tactic(auto)]
 
-ghost use Rattle.std.specs.Prelude.{true, OnOk, ◌++◌, ◌≡◌, ◌≤◌, min, length};
+ghost use Rattle.std.specs.Prelude.{true, OnOk, ◌++◌, ◌≡◌, ◌≤◌, length};
 ghost use Rattle.std.specs.Io.KnownBytes.{Appends};
 ghost use Rattle.laws.specs.Writing.{Went};
 ghost use Rattle.protocol.specs.Terms.{most_ballots};
@@ -12,9 +12,9 @@ ghost use Rattle.protocol.specs.Results.{announced_votes, accepted_lines, in_fro
 ghost use Rattle.runoff.specs.Page as definitions;
 ghost use Rattle.teller.specs.Arguments.{said_by};
 ghost use Rattle.teller.specs.Lengths.{page_most, VotesRoom};
+ghost use Rattle.laws.specs.Faults.{Nothing};
 
-use input::{Input, LONGEST_RECORD};
-use laws::Found;
+use input::LONGEST_RECORD;
 use protocol::{MOST_BALLOTS, Parameters};
 use std::env::FillError;
 use std::io;
@@ -54,18 +54,19 @@ fn numbers() -> [u32; MOST_BALLOTS]
 
 // Writes the page of an accepted record, or of the refusal of the number of candidates, and answers its length.
 fn put_counted(bytes: &[u8], candidates: usize, out: &mut [u8]) -> usize
-    requires { (first_fault true bytes.now ≡ Found.Nothing) × (page_most ≤ length out.old) }
+    requires { (first_fault true bytes.now ≡ Nothing) × (page_most ≤ length out.old) }
     ensures { let page = definitions.counted_page candidates (parameters_of bytes.now).form (announced_votes bytes.now) in
         Went out.old 0 page out.new result }
 {
-    let k = runoff::refuse(candidates, candidates);
-    if k != 0 {
-        return decimals::put_refused(k, out);
+    match runoff::refuse(candidates, candidates) {
+        Ok(()) => {
+            let p = layout::parameters(bytes);
+            let n = p.ballots;
+            let mut votes = numbers();
+            put_votes(bytes, p, candidates, &mut votes[..n], out)
+        }
+        Err(rule) => decimals::put_refused(rule.number(), out),
     }
-    let p = layout::parameters(bytes);
-    let n = p.ballots;
-    let mut votes = numbers();
-    put_votes(bytes, p, candidates, &mut votes[..n], out)
 }
 
 // Writes the page of what was read, and answers its length. What lies behind it is unchanged.
@@ -77,50 +78,28 @@ pub fn put_page(bytes: &[u8], candidates: usize, out: &mut [u8; LONGEST_PAGE]) -
         return wire::copy(out, 0, b"TOO LONG\n");
     }
     match verifier::first_fault(bytes, true) {
-        Found::Nothing => put_counted(bytes, candidates, out),
-        Found::Fault(number, _) => decimals::put_refused(number, out),
+        Ok(()) => put_counted(bytes, candidates, out),
+        Err(fault) => decimals::put_refused(fault.rule.number(), out),
     }
 }
 
 // ---- the argument
 
-// A number of candidates, every number above 9 being as good as 10; or no number.
-#[derive(Clone, Copy)]
-pub enum Argument {
-    Number(usize),
-    Otherwise,
-}
-
-fn at_most_ten(x: usize) -> usize
-    ensures { result ≡ min 10 x }
-{
-    if 10 < x {
-        return 10;
-    }
-    x
-}
-
-// What an argument says, in decimal digits.
-pub fn said(argument: &[u8]) -> Argument
+// The number that an argument says in decimal digits, every number above 9 being as good as 10; none where it says no number.
+pub fn said(argument: &[u8]) -> Option<usize>
     ensures { result ≡ said_by argument.now }
 {
-    if argument.len() == 0 {
-        return Argument::Otherwise;
+    if argument.is_empty() {
+        return None;
     }
     let mut number: usize = 0;
-    let mut i: usize = 0;
-    while i < argument.len() {
-        let character = argument[i] as usize;
-        if character < 48 {
-            return Argument::Otherwise;
+    for &character in argument {
+        if !character.is_ascii_digit() {
+            return None;
         }
-        if 57 < character {
-            return Argument::Otherwise;
-        }
-        number = at_most_ten(number * 10 + (character - 48));
-        i += 1;
+        number = (number * 10 + (character - b'0') as usize).min(10);
     }
-    Argument::Number(number)
+    Some(number)
 }
 
 // ---- what is read and written
@@ -153,8 +132,8 @@ fn print_page<W: Write>(out: &mut W, bytes: &[u8], candidates: usize) -> io::Res
 fn count(rt: &(impl io::Input + Print + Eprint), candidates: usize) -> io::Result<()> {
     let mut record = buffer();
     match input::read_input(&mut rt.reader(), &mut record) {
-        Input::Bytes(n) => print_page(&mut io::writer(rt), &record[..n], candidates),
-        Input::Unreadable => eprintln!(rt; "standard input cannot be read"),
+        Ok(n) => print_page(&mut io::writer(rt), &record[..n], candidates),
+        Err(_) => eprintln!(rt; "standard input cannot be read"),
     }
 }
 
@@ -163,20 +142,18 @@ fn usage(rt: &impl Eprint) -> io::Result<()> {
 }
 
 // What the first argument says, where there is just one. One of more than 4,096 characters says nothing.
-fn first_argument(rt: &impl Env) -> Argument {
+fn first_argument(rt: &impl Env) -> Option<usize> {
     let mut argument = [0; 4096];
     if !matches!(rt.arg(2, &mut argument), Err(FillError::NotPresent)) {
-        return Argument::Otherwise;
+        return None;
     }
-    match rt.arg(1, &mut argument) {
-        Ok(n) => said(&argument[..n]),
-        Err(_) => Argument::Otherwise,
-    }
+    let n = rt.arg(1, &mut argument).ok()?;
+    said(&argument[..n])
 }
 
 fn main(rt: HostRuntime) -> io::Result<()> {
     match first_argument(&rt) {
-        Argument::Number(candidates) => count(&rt, candidates),
-        Argument::Otherwise => usage(&rt),
+        Some(candidates) => count(&rt, candidates),
+        None => usage(&rt),
     }
 }

@@ -64,8 +64,8 @@ fn many_a3<W: Write>(out: &mut W) -> io::Result<()> {
 
 // Byte i is i modulo 256.
 fn count_up(m: &mut [u8]) {
-    for i in 0..m.len() {
-        m[i] = (i % 256) as u8;
+    for (i, x) in m.iter_mut().enumerate() {
+        *x = (i % 256) as u8;
     }
 }
 
@@ -104,10 +104,10 @@ fn feed(s: Sponge, rate: usize, a: &[u8], total: usize) -> Sponge
     let mut t = s;
     let mut left = total;
     let mut most: usize = 1;
+    // a `while`: each piece has its own length
     while left != 0 {
         let n = (left - 1) % most + 1;
-        let u = sha3::absorb(t, rate, &a[..n]);
-        t = u;
+        t = sha3::absorb(t, rate, &a[..n]);
         left -= n;
         most = most % a.len() + 1;
     }

@@ -4,7 +4,7 @@ use mathlib.Core.List.{List}
 use Prim.Native.Nat.{ℕ, ◌+◌, ◌≤◌, ◌<◌}
 use native.Mathlib.Omega.{arith}
 use lib.ListN.{length}
-use Rattle.laws.specs.declared.Found.TheVariants.{Nothing, Fault}
+use Rattle.laws.specs.Faults.{Nothing, Fault}
 use Rattle.laws.specs.Tests.{at_most, is_at_most, not_at_most}
 use Rattle.laws.specs.Faults.{located, rule, rule_go, rule_stop, located_at, located_nothing}
 use Rattle.protocol.specs.declared.Parameters.{Parameters}

@@ -8,7 +8,7 @@ use native.Mathlib.Decide.{ℕ_discrete}
 use native.Mathlib.Omega.{arith}
 use lib.Count.{ones}
 use lib.ListN.{length, take}
-use Rattle.laws.specs.declared.Found.TheVariants.{Nothing}
+use Rattle.laws.specs.Faults.{Nothing}
 use Rattle.laws.specs.Faults.{first, rules, then_nothing}
 use Rattle.laws.specs.Masks.{bit, set_before, bit_small, set_ones, set_rank}
 use Rattle.laws.specs.Chunks.{piece, piece_join}

@@ -1,20 +1,21 @@
 -- Parameters that are the record's, and the verdict by the first fault.
-use mathlib.Core.Path.{◌≡◌, sym, ap}
+use mathlib.Core.Path.{◌≡◌, refl, ap}
 use mathlib.Core.Bool.{Bool}
 use mathlib.Core.List.{List, []}
-use Prim.Native.Nat.{ℕ, zero, suc}
-use Rattle.laws.specs.declared.Found.{Found}
-use Rattle.laws.specs.declared.Found.TheVariants.{Nothing, Fault}
-use Rattle.laws.specs.Faults.{◌then◌, number_of, nothing_fault}
+use Prim.Native.Nat.{ℕ}
+use Rattle.std.specs.Prelude.{Ok, Err, ⊤}
+use Rattle.laws.specs.Faults.{Found, Nothing, Fault}
+use Rattle.laws.specs.Faults.{◌then◌, number_of}
 use Rattle.protocol.specs.declared.Parameters.{Parameters}
 use Rattle.protocol.specs.declared.Due.TheVariants.{First}
-use Rattle.protocol.specs.declared.Verdict.TheVariants.{Accepted, Refused}
-use Rattle.protocol.specs.Answers.{answer_of, verdict_answer}
+use Rattle.protocol.specs.declared.Rule.{Rule}
+use Rattle.protocol.specs.Answers.{rule_number, verdict_answer}
 use Rattle.protocol.specs.Layout.{first_code}
 use Rattle.protocol.specs.Record.{form_of, parameters_of}
 use Rattle.protocol.specs.Rules.{fault_with}
 use Rattle.protocol.specs.Judging.{found, found_with, ballot_faults, part_one_faults, part_two_faults, part_three_faults, first_fault, judged}
-use Rattle.protocol.proofs.Faultless.{judged_nothing}
+use Rattle.protocol.proofs.Answered.{rule_positive, done_is}
+use Rattle.protocol.proofs.Answered as answers
 use Rattle.protocol.proofs.Forms.{code_width}
 
 -- the first command's rule is the same for all parameters in whose form it has the byte of the record's own
@@ -35,10 +36,10 @@ module _ (drawn : Bool) (r : List ℕ) where
 
   -- ---- the verdict
 
-  pub accepted_is : first_fault drawn r ≡ Nothing → verdict_answer Accepted ≡ judged drawn r
-  accepted_is e = sym ((judged_nothing drawn r).1 e)
+  pub accepted_is : {u : ⊤} → Nothing ≡ first_fault drawn r → verdict_answer (Ok u) ≡ judged drawn r
+  unfolding judged number_of
+  accepted_is e = done_is 0 _ [] (ap number_of e) refl
 
-  pub refused_is : (k : ℕ) {at : ℕ} → first_fault drawn r ≡ Fault k at → verdict_answer (Refused k) ≡ judged drawn r
-  unfolding judged answer_of number_of
-  refused_is zero e = absurd (nothing_fault ((judged_nothing drawn r).0 (ap (λ (f : Found). answer_of (number_of f) []) e)) e)
-  refused_is (suc k) e = sym (ap (λ (f : Found). answer_of (number_of f) []) e)
+  pub refused_is : (rule : Rule) {at : ℕ} → Fault (rule_number rule) at ≡ first_fault drawn r → verdict_answer (Err rule) ≡ judged drawn r
+  unfolding judged number_of
+  refused_is rule e = answers.refused_is (rule_number rule) _ [] (ap number_of e) (rule_positive rule)

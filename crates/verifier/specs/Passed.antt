@@ -1,7 +1,6 @@
 -- What the stages of judging know from those before them.
 use Rattle.std.specs.Prelude.{◌≡◌, ◌≢◌, Bool, true, List, ℕ, ◌≤◌, ◌<◌, ltb, length, take}
-use Rattle.laws.specs.declared.Found.{Found}
-use Rattle.laws.specs.declared.Found.TheVariants.{Nothing}
+use Rattle.laws.specs.Faults.{Found, Nothing}
 use Rattle.laws.specs.Faults.{first}
 use Rattle.laws.specs.Tests.{pick}
 use Rattle.sha3.specs.declared.Sponge.{Sponge}

@@ -7,104 +7,80 @@ ghost use Rattle.protocol.specs.Layout as places;
 ghost use Rattle.protocol.specs.Judging.{ballot_faults, judged_ballots, entry_faults, part_one_faults};
 ghost use Rattle.layout.specs.Bounds.{Few};
 ghost use Rattle.verifier.specs.Passed.{BallotsPassed, stopped};
+ghost use Rattle.protocol.specs.Answers.{found_in};
 
-use laws::Found;
-use protocol::{Due, Parameters};
+use super::{Record, each};
+use protocol::{Due, Fault};
 
 // How many of the first n ballots come before the first one that has a fault by itself.
-fn ballots_passed(bytes: &[u8], p: Parameters, drawn: bool, n: usize) -> usize
+fn ballots_passed(r: Record, n: usize) -> usize
     requires { n ≤ most_ballots }
-    ensures { BallotsPassed drawn p bytes.now n result }
+    ensures { let r₀ = r.entry in BallotsPassed r₀.drawn r₀.parameters r₀.bytes.now n result }
 {
-    let mut j: usize = 0;
-    while j < n {
-        let at = layout::at_ballot(p, j);
-        let f = reader::command_fault(bytes, at, Due::Ballot(j), p, drawn);
-        let Found::Nothing = f else {
+    for j in 0..n {
+        let at = layout::at_ballot(r.parameters, j);
+        if r.fault(at, Due::Ballot(j)).is_err() {
             return j;
-        };
-        j += 1;
+        }
     }
     n
 }
 
 // What is found of ballot k by itself, if it is one of the first n.
-fn stopping_fault(bytes: &[u8], p: Parameters, drawn: bool, n: usize, k: usize) -> Found
+fn stopping_fault(r: Record, n: usize, k: usize) -> Result<(), Fault>
     requires { n ≤ most_ballots }
-    ensures { result ≡ stopped drawn p bytes.now n k }
+    ensures { let r₀ = r.entry in found_in result ≡ stopped r₀.drawn r₀.parameters r₀.bytes.now n k }
 {
     if k < n {
-        let at = layout::at_ballot(p, k);
-        return reader::command_fault(bytes, at, Due::Ballot(k), p, drawn);
+        let at = layout::at_ballot(r.parameters, k);
+        return r.fault(at, Due::Ballot(k));
     }
-    Found::Nothing
+    Ok(())
 }
 
 // The first n ballots, each by itself: as the receipt check reads them.
-pub fn ballot_faults(bytes: &[u8], p: Parameters, drawn: bool, n: usize) -> Found
+pub fn ballot_faults(r: Record, n: usize) -> Result<(), Fault>
     requires { n ≤ most_ballots }
-    ensures { result ≡ ballot_faults drawn p bytes.now n }
+    ensures { let r₀ = r.entry in found_in result ≡ ballot_faults r₀.drawn r₀.parameters r₀.bytes.now n }
 {
-    let stop = ballots_passed(bytes, p, drawn, n);
-    stopping_fault(bytes, p, drawn, n, stop)
+    let stop = ballots_passed(r, n);
+    stopping_fault(r, n, stop)
 }
 
 // The same as the judge reads them: rule 21 comes last in each ballot, so that a copy is looked for among those that pass by themselves.
-fn judged_ballots(bytes: &[u8], p: Parameters, drawn: bool, n: usize) -> Found
-    requires { (n ≤ most_ballots) × (places.first_width p ≤ length bytes.now) }
-    ensures { result ≡ judged_ballots drawn p bytes.now n }
+fn judged_ballots(r: Record, n: usize) -> Result<(), Fault>
+    requires { (n ≤ most_ballots) × (places.first_width r.parameters ≤ length r.bytes.now) }
+    ensures { let r₀ = r.entry in found_in result ≡ judged_ballots r₀.drawn r₀.parameters r₀.bytes.now n }
 {
-    let passed = ballots_passed(bytes, p, drawn, n);
-    let copy = copies::first_copy(bytes, p, passed);
-    let Found::Nothing = copy else {
-        return copy;
-    };
-    stopping_fault(bytes, p, drawn, n, passed)
+    let passed = ballots_passed(r, n);
+    copies::first_copy(r.bytes, r.parameters, passed)?;
+    stopping_fault(r, n, passed)
 }
 
 // The entries of one list.
-fn entry_faults(bytes: &[u8], p: Parameters, drawn: bool, l: usize) -> Found
-    requires { Few p × (l ≤ 24) }
-    ensures { result ≡ entry_faults drawn p bytes.now l }
+fn entry_faults(r: Record, l: usize) -> Result<(), Fault>
+    requires { Few r.parameters × (l ≤ 24) }
+    ensures { let r₀ = r.entry in found_in result ≡ entry_faults r₀.drawn r₀.parameters r₀.bytes.now l }
 {
-    let n = p.ballots;
-    let mut i: usize = 0;
-    while i < n {
-        let at = layout::at_entry(p, l, i);
-        let f = reader::command_fault(bytes, at, Due::Entry(l, i), p, drawn);
-        let Found::Nothing = f else {
-            return f;
-        };
-        i += 1;
-    }
-    Found::Nothing
+    each(r.parameters.ballots, |i| {
+        r.fault(layout::at_entry(r.parameters, l, i), Due::Entry(l, i))
+    })
 }
 
 // The entries of all lists.
-fn list_faults(bytes: &[u8], p: Parameters, drawn: bool) -> Found
-    requires { Few p }
-    ensures { result ≡ first (entry_faults drawn p bytes.now) (places.lists p) }
+fn list_faults(r: Record) -> Result<(), Fault>
+    requires { Few r.parameters }
+    ensures { let r₀ = r.entry in
+        found_in result ≡ first (entry_faults r₀.drawn r₀.parameters r₀.bytes.now) (places.lists r₀.parameters) }
 {
-    let all = layout::lists(p);
-    let mut l: usize = 0;
-    while l < all {
-        let f = entry_faults(bytes, p, drawn, l);
-        let Found::Nothing = f else {
-            return f;
-        };
-        l += 1;
-    }
-    Found::Nothing
+    each(layout::lists(r.parameters), |l| entry_faults(r, l))
 }
 
 // The ballots, then the entries of all lists.
-pub fn part_one_faults(bytes: &[u8], p: Parameters, drawn: bool) -> Found
-    requires { Few p × (places.first_width p ≤ length bytes.now) }
-    ensures { result ≡ part_one_faults drawn p bytes.now }
+pub fn part_one_faults(r: Record) -> Result<(), Fault>
+    requires { Few r.parameters × (places.first_width r.parameters ≤ length r.bytes.now) }
+    ensures { let r₀ = r.entry in found_in result ≡ part_one_faults r₀.drawn r₀.parameters r₀.bytes.now }
 {
-    let f = judged_ballots(bytes, p, drawn, p.ballots);
-    let Found::Nothing = f else {
-        return f;
-    };
-    list_faults(bytes, p, drawn)
+    judged_ballots(r, r.parameters.ballots)?;
+    list_faults(r)
 }

@@ -7,192 +7,153 @@ ghost use Rattle.protocol.specs.Judging.{found, if_compared, if_opened, list_hal
 ghost use Rattle.protocol.specs.Judging.{trailing_fault, part_three_faults};
 ghost use Rattle.layout.specs.Bounds.{Few};
 ghost use Rattle.verifier.specs.Passed.{FirstDicePassed, PartTwoPassed, HalvesBegun, HalfPassed, VotesPassed};
+ghost use Rattle.protocol.specs.Answers.{found_in};
 
 use super::part_two::dice_text;
-use laws::Found;
-use protocol::{Due, Parameters};
+use super::{Record, each};
+use protocol::{Due, Fault, Rule};
 
 // ---- commands 07 and 08
 
 // The half of the entry that a compared list links to ballot j.
-fn half_if_compared(bytes: &[u8], p: Parameters, drawn: bool, j: usize, l: usize) -> Found
-    requires { HalfPassed drawn p bytes.now j × (l < places.lists p) }
-    ensures { result ≡ if_compared p bytes.now l (found drawn p bytes.now (Due.ListHalf l j)) }
+fn half_if_compared(r: Record, j: usize, l: usize) -> Result<(), Fault>
+    requires { HalfPassed r.drawn r.parameters r.bytes.now j × (l < places.lists r.parameters) }
+    ensures { let d = r.entry.drawn in
+        let p = r.entry.parameters in
+        let r₀ = r.entry.bytes.now in
+        found_in result ≡ if_compared p r₀ l (found d p r₀ (Due.ListHalf l j)) }
 {
-    let mask = layout::mask(p, bytes);
+    let mask = layout::mask(r.parameters, r.bytes);
     if (mask >> (l as u32)) % 2 == 0 {
-        return Found::Nothing;
+        return Ok(());
     }
-    let at = layout::at_list_half(p, j, layout::rank(mask, l));
-    reader::command_fault(bytes, at, Due::ListHalf(l, j), p, drawn)
+    let at = layout::at_list_half(r.parameters, j, layout::rank(mask, l));
+    r.fault(at, Due::ListHalf(l, j))
 }
 
 // The halves of all linked entries of ballot j.
-fn list_half_faults(bytes: &[u8], p: Parameters, drawn: bool, j: usize) -> Found
-    requires { HalfPassed drawn p bytes.now j }
-    ensures { result ≡ list_half_faults drawn p bytes.now j }
+fn list_half_faults(r: Record, j: usize) -> Result<(), Fault>
+    requires { HalfPassed r.drawn r.parameters r.bytes.now j }
+    ensures { let r₀ = r.entry in found_in result ≡ list_half_faults r₀.drawn r₀.parameters r₀.bytes.now j }
 {
-    let all = layout::lists(p);
-    let mut l: usize = 0;
-    while l < all {
-        let f = half_if_compared(bytes, p, drawn, j, l);
-        let Found::Nothing = f else {
-            return f;
-        };
-        l += 1;
-    }
-    Found::Nothing
+    each(layout::lists(r.parameters), |l| half_if_compared(r, j, l))
 }
 
 // Ballot j's half, and those of its linked entries. `text` is what the sides are drawn from.
-fn half_faults(bytes: &[u8], p: Parameters, drawn: bool, j: usize, text: &[u8]) -> Found
-    requires { HalvesBegun drawn p bytes.now text.now × (j < p.ballots) }
-    ensures { result ≡ half_faults drawn p bytes.now j }
+fn half_faults(r: Record, j: usize, text: &[u8]) -> Result<(), Fault>
+    requires { HalvesBegun r.drawn r.parameters r.bytes.now text.now × (j < r.parameters.ballots) }
+    ensures { let r₀ = r.entry in found_in result ≡ half_faults r₀.drawn r₀.parameters r₀.bytes.now j }
 {
-    let at = layout::at_ballot_half(p, j);
-    let f = reader::drawn_fault(bytes, at, Due::BallotHalf(j), p, drawn, text);
-    let Found::Nothing = f else {
-        return f;
-    };
-    list_half_faults(bytes, p, drawn, j)
+    let at = layout::at_ballot_half(r.parameters, j);
+    reader::drawn_fault(r.bytes, at, Due::BallotHalf(j), r.parameters, r.drawn, text)?;
+    list_half_faults(r, j)
 }
 
 // The halves of all ballots.
-fn all_half_faults(bytes: &[u8], p: Parameters, drawn: bool, text: &[u8]) -> Found
-    requires { HalvesBegun drawn p bytes.now text.now }
-    ensures { result ≡ first (half_faults drawn p bytes.now) p.ballots }
+fn all_half_faults(r: Record, text: &[u8]) -> Result<(), Fault>
+    requires { HalvesBegun r.drawn r.parameters r.bytes.now text.now }
+    ensures { let r₀ = r.entry in
+        found_in result ≡ first (half_faults r₀.drawn r₀.parameters r₀.bytes.now) r₀.parameters.ballots }
 {
-    let n = p.ballots;
-    let mut j: usize = 0;
-    while j < n {
-        let f = half_faults(bytes, p, drawn, j, text);
-        let Found::Nothing = f else {
-            return f;
-        };
-        j += 1;
-    }
-    Found::Nothing
+    each(r.parameters.ballots, |j| half_faults(r, j, text))
 }
 
 // ---- commands 09 to 0B
 
 // The announced votes.
-fn vote_faults(bytes: &[u8], p: Parameters, drawn: bool) -> Found
-    requires { Few p }
-    ensures { result ≡ vote_faults drawn p bytes.now p.ballots }
+fn vote_faults(r: Record) -> Result<(), Fault>
+    requires { Few r.parameters }
+    ensures { let r₀ = r.entry in
+        found_in result ≡ vote_faults r₀.drawn r₀.parameters r₀.bytes.now r₀.parameters.ballots }
 {
-    let n = p.ballots;
-    let mut i: usize = 0;
-    while i < n {
-        let at = layout::at_vote(p, i);
-        let f = reader::command_fault(bytes, at, Due::Vote(i), p, drawn);
-        let Found::Nothing = f else {
-            return f;
-        };
-        i += 1;
-    }
-    Found::Nothing
+    each(r.parameters.ballots, |i| {
+        r.fault(layout::at_vote(r.parameters, i), Due::Vote(i))
+    })
 }
 
 // The full openings of one list, by how many opened lists come before.
-fn full_faults(bytes: &[u8], p: Parameters, drawn: bool, l: usize) -> Found
-    requires { VotesPassed drawn p bytes.now × (l < places.lists p) }
-    ensures { result ≡ full_faults drawn p bytes.now l }
+fn full_faults(r: Record, l: usize) -> Result<(), Fault>
+    requires { VotesPassed r.drawn r.parameters r.bytes.now × (l < places.lists r.parameters) }
+    ensures { let r₀ = r.entry in found_in result ≡ full_faults r₀.drawn r₀.parameters r₀.bytes.now l }
 {
-    let rank = l - layout::rank(layout::mask(p, bytes), l);
-    let n = p.ballots;
-    let mut i: usize = 0;
-    while i < n {
-        let at = layout::at_full_opening(p, rank, i);
-        let f = reader::command_fault(bytes, at, Due::FullOpening(l, i), p, drawn);
-        let Found::Nothing = f else {
-            return f;
-        };
-        i += 1;
+    let rank = l - layout::rank(layout::mask(r.parameters, r.bytes), l);
+    // not `each`: an opening is read only where those before it stand
+    for i in 0..r.parameters.ballots {
+        let at = layout::at_full_opening(r.parameters, rank, i);
+        r.fault(at, Due::FullOpening(l, i))?;
     }
-    Found::Nothing
+    Ok(())
 }
 
 // The same, where list l is opened.
-fn full_if_opened(bytes: &[u8], p: Parameters, drawn: bool, l: usize) -> Found
-    requires { VotesPassed drawn p bytes.now × (l < places.lists p) }
-    ensures { result ≡ if_opened p bytes.now l (full_faults drawn p bytes.now l) }
+fn full_if_opened(r: Record, l: usize) -> Result<(), Fault>
+    requires { VotesPassed r.drawn r.parameters r.bytes.now × (l < places.lists r.parameters) }
+    ensures { let d = r.entry.drawn in
+        let p = r.entry.parameters in
+        let r₀ = r.entry.bytes.now in
+        found_in result ≡ if_opened p r₀ l (full_faults d p r₀ l) }
 {
-    let mask = layout::mask(p, bytes);
+    let mask = layout::mask(r.parameters, r.bytes);
     if (mask >> (l as u32)) % 2 == 1 {
-        return Found::Nothing;
+        return Ok(());
     }
-    full_faults(bytes, p, drawn, l)
+    full_faults(r, l)
 }
 
 // The full openings of all opened lists.
-fn opened_faults(bytes: &[u8], p: Parameters, drawn: bool) -> Found
-    requires { VotesPassed drawn p bytes.now }
-    ensures { let r₀ = bytes.now in
-        result ≡ first (λ l. if_opened p r₀ l (full_faults drawn p r₀ l)) (places.lists p) }
+fn opened_faults(r: Record) -> Result<(), Fault>
+    requires { VotesPassed r.drawn r.parameters r.bytes.now }
+    ensures { let d = r.entry.drawn in
+        let p = r.entry.parameters in
+        let r₀ = r.entry.bytes.now in
+        found_in result ≡ first (λ l. if_opened p r₀ l (full_faults d p r₀ l)) (places.lists p) }
 {
-    let all = layout::lists(p);
-    let mut l: usize = 0;
-    while l < all {
-        let f = full_if_opened(bytes, p, drawn, l);
-        let Found::Nothing = f else {
-            return f;
-        };
-        l += 1;
-    }
-    Found::Nothing
+    each(layout::lists(r.parameters), |l| full_if_opened(r, l))
 }
 
 // The end, and nothing behind it.
-fn end_faults(bytes: &[u8], p: Parameters, drawn: bool) -> Found
-    requires { Few p }
-    ensures { result ≡ found drawn p bytes.now Due.End then trailing_fault p bytes.now }
+fn end_faults(r: Record) -> Result<(), Fault>
+    requires { Few r.parameters }
+    ensures { let d = r.entry.drawn in
+        let p = r.entry.parameters in
+        let r₀ = r.entry.bytes.now in
+        found_in result ≡ found d p r₀ Due.End then trailing_fault p r₀ }
 {
-    let at = layout::at_end(p);
-    let f = reader::command_fault(bytes, at, Due::End, p, drawn);
-    let Found::Nothing = f else {
-        return f;
-    };
-    if at + 1 < bytes.len() {
-        return Found::Fault(17, at + 1);
+    let at = layout::at_end(r.parameters);
+    r.fault(at, Due::End)?;
+    if at + 1 < r.bytes.len() {
+        return Err(Fault {
+            rule: Rule::BytesAfter,
+            at: at + 1,
+        });
     }
-    Found::Nothing
+    Ok(())
 }
 
 // Votes, full openings and the end.
-fn closing_faults(bytes: &[u8], p: Parameters, drawn: bool) -> Found
-    requires { FirstDicePassed drawn p bytes.now }
-    ensures { let r₀ = bytes.now in
-        let opened = first (λ l. if_opened p r₀ l (full_faults drawn p r₀ l)) (places.lists p) in
-        result ≡ vote_faults drawn p r₀ p.ballots then (opened then (found drawn p r₀ Due.End then trailing_fault p r₀)) }
+fn closing_faults(r: Record) -> Result<(), Fault>
+    requires { FirstDicePassed r.drawn r.parameters r.bytes.now }
+    ensures { let d = r.entry.drawn in
+        let p = r.entry.parameters in
+        let r₀ = r.entry.bytes.now in
+        let opened = first (λ l. if_opened p r₀ l (full_faults d p r₀ l)) (places.lists p) in
+        found_in result ≡ vote_faults d p r₀ p.ballots then (opened then (found d p r₀ Due.End then trailing_fault p r₀)) }
 {
-    let v = vote_faults(bytes, p, drawn);
-    let Found::Nothing = v else {
-        return v;
-    };
-    let o = opened_faults(bytes, p, drawn);
-    let Found::Nothing = o else {
-        return o;
-    };
-    end_faults(bytes, p, drawn)
+    vote_faults(r)?;
+    opened_faults(r)?;
+    end_faults(r)
 }
 
 // ---- part three, from command 06 on
 
 // The second dice, the halves, and then votes, full openings and the end. `prefix` has taken in parts one and two.
-pub fn part_three_faults(bytes: &[u8], p: Parameters, drawn: bool, prefix: sha3::Sponge) -> Found
-    requires { PartTwoPassed drawn p bytes.now prefix }
-    ensures { result ≡ part_three_faults drawn p bytes.now }
+pub fn part_three_faults(r: Record, prefix: sha3::Sponge) -> Result<(), Fault>
+    requires { PartTwoPassed r.drawn r.parameters r.bytes.now prefix }
+    ensures { let r₀ = r.entry in found_in result ≡ part_three_faults r₀.drawn r₀.parameters r₀.bytes.now }
 {
-    let at = layout::at_second_dice(p);
-    let f = reader::command_fault(bytes, at, Due::SecondDice, p, drawn);
-    let Found::Nothing = f else {
-        return f;
-    };
-    let text = dice_text(bytes, at, drawn, prefix);
-    let h = all_half_faults(bytes, p, drawn, &text);
-    let Found::Nothing = h else {
-        return h;
-    };
-    closing_faults(bytes, p, drawn)
+    let at = layout::at_second_dice(r.parameters);
+    r.fault(at, Due::SecondDice)?;
+    let text = dice_text(r, at, prefix);
+    all_half_faults(r, &text)?;
+    closing_faults(r)
 }

@@ -6,6 +6,10 @@ use native.Mathlib.Nat.{add-zero, add-suc}
 use native.Mathlib.Omega.{arith}
 use lib.ListN.{get_or}
 use Rattle.laws.specs.Bytes.{number}
+use mathlib.Core.Logic.{◌≢◌}
+use native.Mathlib.Decide.{dec_lt}
+use Rattle.std.specs.Ordering.{nat_cmp}
+use Rattle.wire.specs.Comparing.{is_less, is_greater}
 use Rattle.wire.proofs.Halves.{read_on}
 
 -- what stands behind does not change the order
@@ -27,3 +31,14 @@ word_less r s a b k {p} {q} small l e f g o =
 pub word_same : (r s : List ℕ) (a b k : ℕ) {p q : ℕ} → number r a k ≡ number s b k → p ≡ number r (a + k) 8 → q ≡ number s (b + k) 8 → p ≡ q
     → number r a (k + 8) ≡ number s b (k + 8)
 word_same r s a b k {p} {q} e f g o = sym (read_on r a k 8 refl f) ∙ ap₂ (λ (x y : ℕ). x * 256 ^ 8 + y) e o ∙ read_on s b k 8 refl g
+
+-- .. and so their order is that of the numbers
+pub word_first : (r s : List ℕ) (a b k : ℕ) {p q : ℕ} → ((i : ℕ) → get_or r i 0 < 256) → ((i : ℕ) → get_or s i 0 < 256) → k + 8 ≤ 32 → number r a k ≡ number s b k
+    → p ≡ number r (a + k) 8 → q ≡ number s (b + k) 8 → p ≢ q → nat_cmp p q ≡ nat_cmp (number r a 32) (number s b 32)
+word_first r s a b k {p} {q} small small' l e f g ne = go (dec_lt p q)
+  where
+    go : Dec (p < q) → nat_cmp p q ≡ nat_cmp (number r a 32) (number s b 32)
+    go (yes h) = is_less h ∙ sym (is_less (word_less r s a b k small l e f g h))
+    go (no n) =
+        let h : q < p = omega arith in
+        is_greater h ∙ sym (is_greater (word_less s r b a k small' l (sym e) g f h))

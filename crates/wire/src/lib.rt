@@ -7,7 +7,9 @@ ghost use Rattle.laws.specs.Bytes.{number, bytes};
 ghost use Rattle.laws.specs.Tables.{tabulate};
 ghost use Rattle.laws.specs.Tests.{same};
 ghost use Rattle.laws.specs.Writing.{Went};
-ghost use Rattle.wire.specs.Comparing.{order_of};
+ghost use Rattle.std.specs.Ordering.{nat_cmp};
+
+use std::cmp::Ordering;
 
 // The byte at a place.
 pub fn read1(s: &[u8], at: usize) -> u32
@@ -57,33 +59,20 @@ pub fn read8(s: &[u8], at: usize) -> u64
     half(s, at) * 4294967296 + half(s, at + 4)
 }
 
-// Which of two numbers is the lesser one.
-#[derive(Clone, Copy)]
-pub enum Order {
-    Less,
-    Equal,
-    Greater,
-}
-
 // Compares the 32 bytes from place i of a on, as one number, with those from place j of b on: eight at once, the most significant first,
 // up to the first that differ.
-pub fn compare32(a: &[u8], i: usize, b: &[u8], j: usize) -> Order
+pub fn compare32(a: &[u8], i: usize, b: &[u8], j: usize) -> Ordering
     requires { (i + 32 ≤ length a.now) × (j + 32 ≤ length b.now) }
-    ensures { result ≡ order_of (number a.now i 32) (number b.now j 32) }
+    ensures { result ≡ nat_cmp (number a.now i 32) (number b.now j 32) }
 {
-    let mut k: usize = 0;
-    while k < 32 {
-        let p = read8(a, i + k);
-        let q = read8(b, j + k);
+    for k in 0..4 {
+        let p = read8(a, i + 8 * k);
+        let q = read8(b, j + 8 * k);
         if p != q {
-            if p < q {
-                return Order::Less;
-            }
-            return Order::Greater;
+            return p.cmp(&q);
         }
-        k += 8;
     }
-    Order::Equal
+    Ordering::Equal
 }
 
 // Fills out with numbers of four bytes that stand `step` bytes apart from a place on.
@@ -91,11 +80,8 @@ pub fn fill_numbers(s: &[u8], at: usize, step: usize, out: &mut [u32])
     requires { (i : ℕ) → i < length out.old → at + step * i + 4 ≤ length s.now }
     ensures { out.new ≡ tabulate (λ i. number s.now (at + step * i) 4) (length out.old) }
 {
-    let n = out.len();
-    let mut i: usize = 0;
-    while i < n {
-        out[i] = read4(s, at + step * i);
-        i += 1;
+    for (i, x) in out.iter_mut().enumerate() {
+        *x = read4(s, at + step * i);
     }
 }
 
@@ -131,27 +117,14 @@ pub fn copy(out: &mut [u8], at: usize, src: &[u8]) -> usize
     requires { at + length src.now ≤ length out.old }
     ensures { Went out.old at src.now out.new result }
 {
-    let mut i: usize = 0;
-    while i < src.len() {
-        out[at + i] = src[i];
-        i += 1;
-    }
-    at + i
+    let end = at + src.len();
+    out[at..end].copy_from_slice(src);
+    end
 }
 
-// Whether a and b are the same bytes. It does not stop at the first difference: a loop that goes through to the end
-// lets the compiler compare many bytes at once.
+// Whether a and b are the same bytes.
 pub fn same_bytes(a: &[u8], b: &[u8]) -> bool
     ensures { result ≡ same a.now b.now }
 {
-    if a.len() != b.len() {
-        return false;
-    }
-    let mut equal = true;
-    let mut i: usize = 0;
-    while i < a.len() {
-        equal = equal & (a[i] == b[i]);
-        i += 1;
-    }
-    equal
+    a == b
 }

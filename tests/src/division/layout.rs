@@ -8,16 +8,19 @@ use std::collections::BTreeSet;
 
 /// What a line that stands outside of functions and constants may start with; where it ends in a
 /// semicolon, too, it may bring in names or modules. What copies a value divides nothing.
-const STARTS: [&str; 9] = [
+const STARTS: [&str; 12] = [
     "//",
     "ghost ",
     "struct ",
     "enum ",
+    "impl ",
+    "impl<",
     "}",
     "#![tactic(auto)]",
     "#[unsafe(no_mangle)]",
     "#[repr(C)]",
     "#[derive(Clone, Copy)]",
+    "#[derive(Drop)]",
 ];
 const STARTS_OF_ONE_LINE: [&str; 2] = ["use ", "mod "];
 

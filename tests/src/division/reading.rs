@@ -8,6 +8,8 @@ use crate::edits::sources::{Item, Kind, Sources};
 pub struct Reading {
     pub divisions: Vec<Division>,
     pub names: Vec<Name>,
+    /// The function's parameters by name, among which a call may be of a closure that is handed over.
+    pub parameters: Vec<String>,
 }
 
 /// A division or remainder. `text` is its operator with the divisor, or the name of the call.
@@ -68,7 +70,15 @@ pub fn read(sources: &Sources, item: &Item) -> Result<Reading, String> {
     let names = names(&tokens);
     let mut divisions = operators(&code, &tokens);
     divisions.extend(names.iter().filter_map(dividing_call));
-    Ok(Reading { divisions, names })
+    Ok(Reading { divisions, names, parameters: parameters(sources, item)? })
+}
+
+/// The names before a colon in a function's head.
+fn parameters(sources: &Sources, item: &Item) -> Result<Vec<String>, String> {
+    let head = sources.head(item);
+    let tokens = tokens(head.find('(').map_or("", |at| &head[at..]))?;
+    let named = tokens.windows(2).filter(|pair| pair[0].kind == Sort::Word && pair[1].is(":"));
+    Ok(named.map(|pair| pair[0].text.to_string()).collect())
 }
 
 /// Whether a token is one of the four operators.

@@ -5,9 +5,44 @@ use super::reading::{read, Division, Name, Reading};
 use crate::edits::sources::{joined, module_of, uses, Item, Kind, Sources};
 use std::collections::{BTreeMap, BTreeSet};
 
-/// The calls that are the language's own: built-in functions of numbers, and methods.
+/// The calls that are the language's own: built-in functions of numbers, makers of values, the
+/// bounds of closures, and methods. None of them divides.
 const BUILT_IN: [&str; 2] = ["u32::count_ones", "u32::leading_zeros"];
-const METHODS: [&str; 1] = ["len"];
+const MAKERS: [&str; 9] = [
+    "Ok",
+    "Err",
+    "Some",
+    "Fn",
+    "FnMut",
+    "FnOnce",
+    "Ordering::Less",
+    "Ordering::Equal",
+    "Ordering::Greater",
+];
+const METHODS: [&str; 22] = [
+    "all",
+    "cmp",
+    "contains",
+    "copy_from_slice",
+    "count_ones",
+    "enumerate",
+    "is_empty",
+    "is_eq",
+    "is_err",
+    "is_sorted",
+    "is_sorted_by",
+    "iter",
+    "iter_mut",
+    "leading_zeros",
+    "len",
+    "map_err",
+    "max",
+    "sort_unstable",
+    "sort_unstable_by",
+    "then",
+    "then_some",
+    "unwrap_or",
+];
 
 /// The place of an item: its crate, and its path in that.
 pub type Place = (String, String);
@@ -81,23 +116,39 @@ impl<'a> Program<'a> {
     fn used(&self, place: &Place, name: &Name) -> Result<Vec<Place>, String> {
         let (path, must) = match name {
             Name::Odd(path) => return Err(path.clone()),
-            Name::Method(path) if METHODS.contains(&&path[..]) => return Ok(Vec::new()),
-            Name::Method(path) => return Err(format!(".{path}")),
+            Name::Method(path) => return self.methods(path),
             Name::Call(path) | Name::Path(path) => (path, true),
             Name::Word(path) => (path, false),
         };
         let found = self.meanings(place, path);
-        if must && found.is_empty() && !BUILT_IN.contains(&&path[..]) {
+        let handed = |reading: &Reading| reading.parameters.contains(path);
+        if self.readings.get(place).is_some_and(|one| one.as_ref().is_ok_and(handed)) {
+            // the closure is read where it is written
+            return Ok(Vec::new());
+        }
+        if must && found.is_empty() && !own_call(path) {
             return Err(path.clone());
         }
-        // a word that is not called is mostly a local name, also where a function has the same one
+        // a word that is not called may be a local name, but also a function that is handed over
         let items = found.into_iter().filter_map(|meaning| match meaning {
-            Meaning::Item(library, item) if must || constant(item) => {
-                Some((library.to_string(), item.path.clone()))
-            }
-            _ => None,
+            Meaning::Item(library, item) => Some((library.to_string(), item.path.clone())),
+            Meaning::Type => None,
         });
         Ok(items.collect())
+    }
+
+    /// The methods of the crates that have a name, or the name if the language has none of that name
+    /// either.
+    fn methods(&self, name: &str) -> Result<Vec<Place>, String> {
+        let of = |(library, sources): (&String, &Sources)| {
+            let paths: Vec<String> = sources.methods(name).collect();
+            paths.into_iter().map(|path| (library.clone(), path)).collect::<Vec<_>>()
+        };
+        let found: Vec<Place> = self.crates.iter().flat_map(of).collect();
+        if found.is_empty() && !METHODS.contains(&name) {
+            return Err(format!(".{name}"));
+        }
+        Ok(found)
     }
 
     /// Whether a division at a place is by a literal, or by what is made of literals and constants.
@@ -157,6 +208,11 @@ impl<'a> Program<'a> {
         });
         is.then_some(Meaning::Type)
     }
+}
+
+/// Whether a call is the language's own.
+fn own_call(path: &str) -> bool {
+    BUILT_IN.contains(&path) || MAKERS.contains(&path)
 }
 
 fn constant(item: &Item) -> bool {

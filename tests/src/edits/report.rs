@@ -35,8 +35,10 @@ pub enum Verdict {
 
 /// The words by which an error is known, the first that fit. Every kind was seen in reports of this
 /// kit; whatever another one says is unknown until it is read and listed here.
-const WORDS: [(&str, Kind); 20] = [
+const WORDS: [(&str, Kind); 25] = [
     ("was not admitted (", Kind::Consequence),
+    ("is not admitted: ", Kind::Consequence),
+    ("` was not determined", Kind::Consequence),
     (", which was rejected, w", Kind::Consequence),
     ("is not in scope", Kind::Consequence),
     ("that can be named from here", Kind::Consequence),
@@ -45,6 +47,9 @@ const WORDS: [(&str, Kind); 20] = [
     ("does not follow from what it read", Kind::Unproved),
     ("`omega` found no proof, and no values at which the goal fails", Kind::Unproved),
     ("`omega` stopped at a bound of its own", Kind::Unproved),
+    ("`grind` found no proof", Kind::Unproved),
+    ("`grind` stopped at its own limit", Kind::Unproved),
+    ("`grind`: the goal does not follow", Kind::Unproved),
     ("`search`: no proof of ", Kind::Unproved),
     ("`search` broke off: the call's work took more than", Kind::Unproved),
     ("`cc` met a bound of its own before the equations had joined", Kind::Unproved),

@@ -11,13 +11,38 @@ pub enum Kind {
     Constant,
 }
 
-/// A function or a constant: its path from the crate's root, its place in its file, the place of
-/// its contract, which may be empty, and that of its body, a constant's value.
+/// An `impl` block that items stand in: its parameters, as `<'a>`, and its type, as `Reader<'a>`.
+#[derive(Clone, Debug, PartialEq, Eq)]
+pub struct Block {
+    pub parameters: String,
+    pub kind: String,
+}
+
+impl Block {
+    /// The block that a line opens, if it does.
+    fn opened(line: &str) -> Option<Self> {
+        let rest = line.trim_end().strip_suffix(" {")?.strip_prefix("impl")?;
+        let end = if rest.starts_with('<') { angle_end(rest) } else { 0 };
+        let (parameters, named) = (rest[..end].to_string(), rest[end..].strip_prefix(' ')?);
+        let kind = named.rsplit_once(" for ").map_or(named, |(_, kind)| kind).to_string();
+        Some(Self { parameters, kind })
+    }
+
+    /// The name of its type, without what it is over.
+    pub fn name(&self) -> &str {
+        self.kind.split('<').next().unwrap_or(&self.kind)
+    }
+}
+
+/// A function, which may be a method, or a constant: its path from the crate's root, the block that
+/// it stands in, its place in its file, the place of its contract, which may be empty, and that of
+/// its body, a constant's value.
 #[derive(Clone, Debug)]
 pub struct Item {
     pub kind: Kind,
     pub path: String,
     pub public: bool,
+    pub block: Option<Block>,
     pub file: String,
     pub whole: Range<usize>,
     pub contract: Range<usize>,
@@ -28,6 +53,11 @@ impl Item {
     /// Its name without its module.
     pub fn name(&self) -> &str {
         self.path.rsplit("::").next().unwrap_or(&self.path)
+    }
+
+    /// How far its lines are indented.
+    fn indent(&self) -> &'static str {
+        indent(self.block.is_some())
     }
 }
 
@@ -77,7 +107,9 @@ impl Sources {
         for line in self.files[&item.file][item.contract.clone()].lines() {
             let words = line.split_whitespace().collect::<Vec<_>>().join(" ");
             match found.last_mut() {
-                Some(clause) if !starts_clause(line) => *clause += &format!(" {words}"),
+                Some(clause) if !starts_clause(line, item.indent()) => {
+                    *clause += &format!(" {words}");
+                }
                 _ => found.push(words),
             }
         }
@@ -123,8 +155,21 @@ impl Sources {
     fn called(&self, item: &Item) -> Vec<String> {
         let body = code(self.body(item));
         let imports = imports(&item.file, &self.files[&item.file]);
-        let paths = calls(&body).into_iter().flat_map(|name| meanings(&item.file, &imports, name));
-        paths.filter(|path| self.at(path).is_some()).collect()
+        let own = |name: &str| match &item.block {
+            Some(block) => name.replace("Self::", &format!("{}::", block.name())),
+            None => name.to_string(),
+        };
+        let names = calls(&body).into_iter().map(own);
+        let paths = names.flat_map(|name| meanings(&item.file, &imports, &name));
+        let mut found: Vec<String> = paths.filter(|path| self.at(path).is_some()).collect();
+        found.extend(method_calls(&body).into_iter().flat_map(|name| self.methods(name)));
+        found
+    }
+
+    /// The paths of all methods that have a name.
+    pub fn methods<'a>(&'a self, name: &'a str) -> impl Iterator<Item = String> + 'a {
+        let named = self.items.iter().filter(move |item| item.name() == name);
+        named.filter(|item| item.block.is_some()).map(|item| item.path.clone())
     }
 }
 
@@ -155,17 +200,33 @@ fn item_of(line: &str) -> Option<(Kind, &str)> {
     }
 }
 
+/// How far the lines of an item are indented.
+fn indent(in_block: bool) -> &'static str {
+    if in_block {
+        "    "
+    } else {
+        ""
+    }
+}
+
 fn items_of(file: &str, text: &str) -> Vec<Item> {
     let mut found = Vec::new();
-    let mut at = 0;
+    let (mut at, mut block) = (0, None);
     for line in text.split_inclusive('\n') {
-        if let Some((kind, name)) = item_of(line) {
-            let (whole, body) = places(text, at, kind);
-            let contract = contract(text, at, &body);
-            let path = joined(&module_of(file), name);
-            let public = line.starts_with("pub ");
-            let file = file.to_string();
-            found.push(Item { kind, path, public, file, whole, contract, body });
+        block = match Block::opened(line) {
+            Some(opened) => Some(opened),
+            None => block.filter(|_| !line.starts_with('}')),
+        };
+        let indent = indent(block.is_some());
+        let own = line.strip_prefix(indent).filter(|own| !own.starts_with(' '));
+        if let Some((kind, name)) = own.and_then(item_of) {
+            let (whole, body) = places(text, at, kind, indent);
+            let contract = contract(text, at, &body, indent);
+            let name = block.as_ref().map_or(name.to_string(), |one| joined(one.name(), name));
+            let path = joined(&module_of(file), &name);
+            let public = own.is_some_and(|own| own.starts_with("pub "));
+            let (file, block) = (file.to_string(), block.clone());
+            found.push(Item { kind, path, public, block, file, whole, contract, body });
         }
         at += line.len();
     }
@@ -173,23 +234,42 @@ fn items_of(file: &str, text: &str) -> Vec<Item> {
 }
 
 /// Where an item that starts at a place lies, and where its body does.
-fn places(text: &str, at: usize, kind: Kind) -> (Range<usize>, Range<usize>) {
+fn places(text: &str, at: usize, kind: Kind, indent: &str) -> (Range<usize>, Range<usize>) {
+    if let (Kind::Function, Some(end)) = (kind, without_body(&text[at..], indent)) {
+        return (at..at + end, at + end - "}".len()..at + end - "}".len());
+    }
     let (last, opening) = match kind {
-        Kind::Function => ("\n}", opening(&text[at..])),
-        Kind::Constant => (";\n", text[at..].find('=').map(|n| n + 1)),
+        Kind::Function => (format!("\n{indent}}}"), opening(&text[at..], indent)),
+        Kind::Constant => (";\n".to_string(), text[at..].find('=').map(|n| n + 1)),
     };
-    let close = text[at..].find(last).map_or(text.len(), |n| at + n);
+    let close = text[at..].find(&last).map_or(text.len(), |n| at + n);
     let start = opening.map_or(close, |n| at + n).min(close);
     (at..(close + last.len()).min(text.len()), start..close)
 }
 
-/// Where a function's body starts: behind the brace that ends the first line which is not indented
-/// and ends in one. Its contract's lines are indented.
-fn opening(text: &str) -> Option<usize> {
+/// Where a function ends that has an empty body, `{}` on its own line.
+fn without_body(text: &str, indent: &str) -> Option<usize> {
     let mut at = 0;
     for line in text.split_inclusive('\n') {
         at += line.len();
-        if !line.starts_with(' ') && line.trim_end().ends_with('{') {
+        let own = line.trim_end().strip_prefix(indent).filter(|own| !own.starts_with(' '));
+        match own {
+            Some("{}") => return Some(at - "\n".len()),
+            Some(own) if own.ends_with('{') => return None,
+            _ => {}
+        }
+    }
+    None
+}
+
+/// Where a function's body starts: behind the brace that ends the first line which is indented no
+/// further than the function and ends in one. Its contract's lines are indented further.
+fn opening(text: &str, indent: &str) -> Option<usize> {
+    let mut at = 0;
+    for line in text.split_inclusive('\n') {
+        at += line.len();
+        let own = line.strip_prefix(indent).is_some_and(|own| !own.starts_with(' '));
+        if own && line.trim_end().ends_with('{') {
             return Some(at);
         }
     }
@@ -197,18 +277,19 @@ fn opening(text: &str) -> Option<usize> {
 }
 
 /// Whether a line starts a clause of a contract. In the layout of `rt fmt` it has its own line.
-fn starts_clause(line: &str) -> bool {
-    let clause = line.strip_prefix("    ").and_then(|rest| rest.split(' ').next());
-    clause.is_some_and(|word| matches!(word, "requires" | "ensures"))
+fn starts_clause(line: &str, indent: &str) -> bool {
+    let inner = line.strip_prefix(indent).and_then(|own| own.strip_prefix("    "));
+    let word = inner.and_then(|rest| rest.split(' ').next());
+    word.is_some_and(|word| matches!(word, "requires" | "ensures"))
 }
 
-/// Where the contract of an item stands that starts at a place: from its first clause to the brace
-/// before its body. It is empty where there is none.
-fn contract(text: &str, start: usize, body: &Range<usize>) -> Range<usize> {
+/// Where the contract of an item stands that starts at a place: from its first clause to the line of
+/// the brace before its body. It is empty where there is none.
+fn contract(text: &str, start: usize, body: &Range<usize>, indent: &str) -> Range<usize> {
     let mut at = start;
     for line in text[start..body.start].split_inclusive('\n') {
-        if starts_clause(line) {
-            return at..body.start - "{\n".len();
+        if starts_clause(line, indent) {
+            return at..body.start - indent.len() - "{\n".len();
         }
         at += line.len();
     }
@@ -244,6 +325,23 @@ fn first_word(text: &str) -> Option<&str> {
     Some(&text[..end]).filter(|word| !word.is_empty())
 }
 
+/// Where the angle bracket that a text starts with is closed; an arrow's does not close it.
+pub fn angle_end(text: &str) -> usize {
+    let (mut depth, mut before) = (0usize, ' ');
+    for (at, c) in text.char_indices() {
+        match c {
+            '<' => depth += 1,
+            '>' if before != '-' => depth -= 1,
+            _ => {}
+        }
+        if depth == 0 {
+            return at + 1;
+        }
+        before = c;
+    }
+    text.len()
+}
+
 /// A text without its comments.
 pub fn code(text: &str) -> String {
     let lines = text.lines().map(|line| line.split("//").next().unwrap_or(line).trim_end());
@@ -255,6 +353,17 @@ fn calls(code: &str) -> BTreeSet<&str> {
     let heads = code.match_indices('(').map(|(at, _)| &code[..at]);
     let part = |c: char| c.is_alphanumeric() || c == '_' || c == ':';
     let names = heads.map(|head| &head[head.trim_end_matches(part).len()..]);
+    names.filter(|name| !name.is_empty()).collect()
+}
+
+/// The names of the methods that are called.
+fn method_calls(code: &str) -> BTreeSet<&str> {
+    let heads = code.match_indices('(').map(|(at, _)| &code[..at]);
+    let part = |c: char| c.is_alphanumeric() || c == '_';
+    let names = heads.filter_map(|head| {
+        let before = head.trim_end_matches(part);
+        before.ends_with('.').then(|| &head[before.len()..])
+    });
     names.filter(|name| !name.is_empty()).collect()
 }
 

@@ -2,7 +2,7 @@
 //! shows which edits change an answer (`src/edited.rs` runs it). Rattle's code is Rust's but for
 //! the contracts and the attributes, which are left out: every type has those that are written here.
 
-use super::sources::{module_of, Item, Kind, Sources};
+use super::sources::{angle_end, module_of, Block, Item, Kind, Sources};
 use super::Trial;
 
 /// Where the translated crates stand.
@@ -10,6 +10,9 @@ const ROOT: &str = "crate::edited";
 
 /// The attribute of a type that C reads, the only one that is kept.
 const LAID_OUT: &str = "#[repr(C)]";
+
+/// The trait of types that contracts see as something else: without its laws it asks for nothing.
+const MODEL: &str = "use std::marker::Model;";
 
 /// One crate: its name, the crates that it leans on, and its sources.
 pub struct Library {
@@ -19,12 +22,12 @@ pub struct Library {
 }
 
 /// A function's name, what stands between its name and its parameters, its parameters with their
-/// types, and its answer, as `-> u32`.
+/// types, and its answer, as `-> u32`. Of a method the first parameter is `this`.
 struct Signature<'a> {
-    name: &'a str,
-    lifetimes: &'a str,
-    parameters: Vec<(&'a str, &'a str)>,
-    answer: &'a str,
+    name: String,
+    generics: String,
+    parameters: Vec<(&'a str, String)>,
+    answer: String,
 }
 
 /// All crates as modules. The place of a trial in the list, counted from 1, is its number.
@@ -50,18 +53,23 @@ fn numbers(library: &Library, trials: &[Trial], holds: impl Fn(&Trial) -> bool) 
 fn file(library: &Library, name: &str, trials: &[Trial]) -> Result<String, String> {
     let sources = &library.sources;
     let text = sources.files.get(name).ok_or(format!("{}: no {name}", library.name))?;
-    let mut all = format!("use {ROOT}::{{active, chosen, tick, Deeper, Settled}};\n");
+    let mut all = format!("use {ROOT}::{{active, chosen, tick, Deeper, Model, Settled}};\n");
     for other in &library.leans_on {
         if !text.lines().any(|line| line.trim_start_matches("pub ") == format!("mod {other};")) {
             all += &format!("use {ROOT}::{other};\n");
         }
     }
-    let (mut plain, mut at) = (String::new(), 0);
+    let (mut plain, mut behind, mut at) = (String::new(), String::new(), 0);
     for item in sources.items.iter().filter(|item| item.file == name) {
         all += &between(library, name, &text[at..item.whole.start], trials)?;
         if item.kind == Kind::Function {
             let function = Function::new(library, item, trials)?;
-            all += &function.with_edits();
+            if item.block.is_some() {
+                all += &function.method();
+                behind += &function.with_edits();
+            } else {
+                all += &function.with_edits();
+            }
             plain += &function.plain();
         } else {
             all += &constant(library, item, trials);
@@ -69,6 +77,7 @@ fn file(library: &Library, name: &str, trials: &[Trial]) -> Result<String, Strin
         at = item.whole.end;
     }
     all += &between(library, name, &text[at..], trials)?;
+    all += &behind;
     all +=
         &format!("mod plain {{\nuse super::*;\n{}}}\n", plain.replace("super::", "super::super::"));
     let mut all = all.replace("use crate::", &format!("use {ROOT}::{}::", library.name));
@@ -88,7 +97,11 @@ fn between(lib: &Library, name: &str, text: &str, trials: &[Trial]) -> Result<St
             all += &format!("pub mod {inner} {{\n{}}}\n", file(lib, &path, trials)?);
         } else if words.starts_with("struct ") || words.starts_with("enum ") {
             all += &format!("#[derive(Clone, Copy, Debug, PartialEq)]\n{line}\n");
-        } else if line == LAID_OUT || !words.starts_with("ghost ") && !line.starts_with('#') {
+        } else if words == MODEL {
+            // each file has it already
+        } else if line == LAID_OUT
+            || !words.trim_start().starts_with("ghost ") && !line.starts_with('#')
+        {
             all += &format!("{line}\n");
         }
     }
@@ -121,7 +134,31 @@ fn now(constant: &str) -> String {
 /// The body of a function, with a count in each loop.
 fn counted(library: &Library, text: &str) -> String {
     let text = text.replace("while ", "while tick() && ").replace("loop {", "loop {\ntick();");
+    let counted = |line: &str| match line.trim_start().starts_with("for ") && line.ends_with('{') {
+        true => format!("{line}\ntick();\n"),
+        false => format!("{line}\n"),
+    };
+    let text: String = text.lines().map(counted).collect();
     text.replace("crate::", &format!("{ROOT}::{}::", library.name))
+}
+
+/// A method's text as that of a function of its file: `self` is its first parameter.
+fn unbound(block: Option<&Block>, text: &str) -> String {
+    let Some(block) = block else { return text.to_string() };
+    let part = |c: char| c.is_alphanumeric() || c == '_';
+    let (mut all, mut rest) = (String::new(), text);
+    while let Some(start) = rest.find(part) {
+        let length = rest[start..].find(|c| !part(c)).unwrap_or(rest.len() - start);
+        let word = &rest[start..start + length];
+        all += &rest[..start];
+        all += match word {
+            "self" => "this",
+            "Self" => &block.kind,
+            _ => word,
+        };
+        rest = &rest[start + length..];
+    }
+    all + rest
 }
 
 /// The same, with the edited constants as calls, where one is read or taken as a whole. As an array's
@@ -152,7 +189,8 @@ struct Function<'a> {
 impl<'a> Function<'a> {
     fn new(library: &'a Library, item: &'a Item, trials: &'a [Trial]) -> Result<Self, String> {
         let text = &library.sources.files[&item.file][item.whole.start..item.body.start];
-        let head = signature(text).ok_or(format!("{}::{}: its head", library.name, item.path))?;
+        let head = signature(text, item.block.as_ref());
+        let head = head.ok_or(format!("{}::{}: its head", library.name, item.path))?;
         let edited = numbers(library, trials, |trial| trial.item == item.path);
         let guarded = numbers(library, trials, |trial| trial.contract == item.path);
         Ok(Self { library, item, trials, head, edited, guarded })
@@ -163,18 +201,36 @@ impl<'a> Function<'a> {
         !self.item.public && self.guarded.is_empty()
     }
 
+    fn unbound(&self, text: &str) -> String {
+        unbound(self.item.block.as_ref(), text)
+    }
+
     fn as_it_is(&self) -> String {
-        body(self.library, self.library.sources.body(self.item), self.trials)
+        let text = self.library.sources.body(self.item);
+        body(self.library, &self.unbound(text), self.trials)
+    }
+
+    /// A method, which calls the function that stands for it.
+    fn method(&self) -> String {
+        let sources = &self.library.sources;
+        let text = &sources.files[&self.item.file][self.item.whole.start..self.item.body.start];
+        let arguments = self.head.parameters.iter().map(|(name, _)| match *name {
+            "this" => "self",
+            name => name,
+        });
+        let arguments = arguments.collect::<Vec<_>>().join(", ");
+        format!("{} {{\n{}({arguments})\n}}\n", without_contract(text), self.head.name)
     }
 
     /// The function for the module `plain`; there the others' names mean those of the module above.
     fn plain(&self) -> String {
         let name = if self.inner() {
-            self.head.name.to_string()
+            self.head.name.clone()
         } else {
             format!("{}_as_it_is", self.head.name)
         };
-        self.head.written(&name, &counted(self.library, self.library.sources.body(self.item)))
+        let text = self.library.sources.body(self.item);
+        self.head.written(&name, &counted(self.library, &self.unbound(text)))
     }
 
     /// Chooses by the edit that is on.
@@ -184,20 +240,20 @@ impl<'a> Function<'a> {
         for &n in &self.edited {
             let name = format!("{}_with_{n}", head.name);
             let applied = self.trials[n - 1].applied(self.library.sources.body(self.item));
+            let applied = self.unbound(&applied);
             all += &head.written(&name, &body(self.library, &applied, self.trials));
             arms += &format!("{n} => {{\nlet _deeper = Deeper::new();\n{name}({arguments})\n}}\n");
         }
         let as_it_is = format!("{}_as_it_is", head.name);
         arms += &format!("_ => {as_it_is}({arguments}),\n");
         all += &head.written(&as_it_is, &self.as_it_is());
-        let name =
-            if self.inner() { head.name.to_string() } else { format!("{}_chosen", head.name) };
+        let name = if self.inner() { head.name.clone() } else { format!("{}_chosen", head.name) };
         all + &head.written(&name, &format!("match chosen() {{\n{arms}}}\n"))
     }
 
     /// The function as others call it: it tries the edits that it guards.
     fn with_edits(&self) -> String {
-        let (head, name) = (&self.head, self.head.name);
+        let (head, name) = (&self.head, &self.head.name);
         if self.inner() {
             return if self.edited.is_empty() {
                 head.written(name, &self.as_it_is())
@@ -222,21 +278,74 @@ impl<'a> Function<'a> {
     }
 }
 
+/// A function's head without its contract.
+fn without_contract(text: &str) -> &str {
+    let clauses = ["requires ", "ensures "].into_iter();
+    let starts = clauses.flat_map(|word| [format!("\n    {word}"), format!("\n        {word}")]);
+    let end = starts.chain(["{\n".to_string()]).filter_map(|word| text.find(&word)).min();
+    text[..end.unwrap_or(text.len())].trim_end()
+}
+
+/// Where the bracket that a text starts with is closed.
+fn bracket_end(text: &str) -> Option<usize> {
+    let mut depth = 0usize;
+    for (at, c) in text.char_indices() {
+        depth += usize::from("([".contains(c));
+        depth -= usize::from(")]".contains(c));
+        if depth == 0 {
+            return Some(at + 1);
+        }
+    }
+    None
+}
+
+/// The parts of a list that commas part, not those within brackets.
+fn parts(text: &str) -> Vec<&str> {
+    let (mut found, mut start, mut depth, mut before) = (Vec::new(), 0, 0, ' ');
+    for (at, c) in text.char_indices() {
+        match c {
+            '(' | '[' | '<' => depth += 1,
+            ')' | ']' => depth -= 1,
+            '>' if before != '-' => depth -= 1,
+            ',' if depth == 0 => {
+                found.push(&text[start..at]);
+                start = at + 1;
+            }
+            _ => {}
+        }
+        before = c;
+    }
+    found.push(&text[start..]);
+    found.into_iter().map(str::trim).filter(|part| !part.is_empty()).collect()
+}
+
 /// The head of a function, from its first line on to where its contract or its body starts.
-fn signature(text: &str) -> Option<Signature<'_>> {
-    let contract = ["\n    requires ", "\n    ensures ", "{\n"];
-    let end = contract.iter().filter_map(|word| text.find(word)).min()?;
-    let (_, rest) = text[..end].split_once("fn ")?;
-    let (before, rest) = rest.split_once('(')?;
-    let (name, lifetimes) = before.split_at(before.find('<').unwrap_or(before.len()));
-    let (inner, answer) = rest.rsplit_once(')')?;
-    let parts = inner.split(',').map(str::trim).filter(|part| !part.is_empty());
-    let parameters = parts.map(|part| part.trim_start_matches("mut ").split_once(": "));
+fn signature<'a>(text: &'a str, block: Option<&Block>) -> Option<Signature<'a>> {
+    let (_, rest) = without_contract(text).split_once("fn ")?;
+    let (name, rest) = rest.split_at(rest.find(['<', '('])?);
+    let (own, rest) = rest.split_at(if rest.starts_with('<') { angle_end(rest) } else { 0 });
+    let (inner, answer) = rest.split_at(bracket_end(rest)?);
+    let inner = inner.strip_prefix('(')?.strip_suffix(')')?;
+    let parameter = |part: &'a str| match (block, part.strip_suffix("self")) {
+        (Some(block), Some(lent)) => {
+            Some(("this", format!("{}{}", lent.trim_start_matches("mut "), block.kind)))
+        }
+        _ => {
+            let (name, kind) = part.trim_start_matches("mut ").split_once(": ")?;
+            Some((name, unbound(block, kind)))
+        }
+    };
+    let outer = block.map_or("", |block| &block.parameters[..]);
+    let generics = match (outer.strip_suffix('>'), own.strip_prefix('<')) {
+        (Some(outer), Some(own)) => format!("{outer}, {own}"),
+        _ => format!("{outer}{own}"),
+    };
+    let named = |block: &Block| format!("{}_{name}", block.name().to_lowercase());
     Some(Signature {
-        name,
-        lifetimes,
-        parameters: parameters.collect::<Option<_>>()?,
-        answer: answer.trim(),
+        name: block.map_or(name.to_string(), named),
+        generics,
+        parameters: parts(inner).into_iter().map(parameter).collect::<Option<_>>()?,
+        answer: unbound(block, answer.trim()),
     })
 }
 
@@ -245,7 +354,7 @@ impl Signature<'_> {
     fn written(&self, name: &str, body: &str) -> String {
         let parameters = self.parameters.iter().map(|(name, kind)| format!("mut {name}: {kind}"));
         let parameters = parameters.collect::<Vec<_>>().join(", ");
-        format!("pub fn {name}{}({parameters}) {} {{\n{body}\n}}\n", self.lifetimes, self.answer)
+        format!("pub fn {name}{}({parameters}) {} {{\n{body}\n}}\n", self.generics, self.answer)
     }
 
     fn arguments(&self) -> String {
@@ -280,7 +389,7 @@ impl Signature<'_> {
 
     /// Runs a call with each edit in turn that still waits for a change, beside the call as it is.
     fn trial(&self, edits: &[usize]) -> String {
-        let name = self.name;
+        let name = &self.name;
         let was = self.on_copies(&format!("plain::{name}_as_it_is"), &format!("{ROOT}::NONE"));
         let is = self.on_copies(&format!("{name}_chosen"), "edit");
         format!(
@@ -315,7 +424,7 @@ impl Signature<'_> {
             }
         }
         let (name, parameters, arguments) =
-            (self.name, parameters.join(", "), arguments.join(", "));
+            (&self.name, parameters.join(", "), arguments.join(", "));
         format!(
             "#[export_name = {name:?}]\npub unsafe extern \"C\" fn c_{name}({parameters}) {} {{\n\
              {name}({arguments})\n}}\n",

@@ -1,13 +1,8 @@
 -- `board::put_ballots` meets its contract. The loop: the first j ballots are written.
-use Prim.Native.Nat.{◌-◌, ◌≤◌}
 use Rattle.laws.specs.Chunks.{chunks}
 use Rattle.laws.specs.Writing.{Went}
-use Rattle.protocol.specs.Inputs.{given}
 use Rattle.board.proofs.Commands.{ballot_of}
 use Rattle.board.proofs.put_ballots.Given as goal
 
 abbrev pub invariant-loop-j : goal.invariant-loop-j
-invariant-loop-j l = (l.j ≤ l.n) × Went l.initial.out l.at (chunks (ballot_of (given l.p l.ids l.votes l.numbers l.permutations l.keys)) l.j) l.out l.next
-
-abbrev pub decreases-loop-j : goal.decreases-loop-j
-decreases-loop-j l = l.n - l.j
+invariant-loop-j l = Went l.initial.out l.at (chunks (ballot_of l.s) l.j) l.out l.next

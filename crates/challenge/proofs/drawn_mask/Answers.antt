@@ -1,48 +1,42 @@
 -- `challenge::drawn_mask` meets its contract. The loop: the mask so far, with what is drawn of the lists behind, is the mask.
-use mathlib.Core.Path.{◌≡◌, sym, ap₂, ◌∙◌}
-use Prim.Native.Nat.{ℕ, ◌+◌, ◌-◌, ◌*◌, ◌^◌}
+use mathlib.Core.Path.{sym, ap, ◌∙◌}
+use Prim.Native.Nat.{ℕ, ◌+◌, ◌-◌, ◌*◌}
 use native.Mathlib.Omega.{arith}
-use Rattle.protocol.specs.Drawing.{list_hash, draw_from, drawn_mask}
-use Rattle.challenge.proofs.Draws.{shifted, mask_more, mask_small, draw_start, draw_step, draw_none}
+use Rattle.laws.specs.Sums.{one_if}
+use Rattle.laws.specs.Tests.{below_iff, told_true, told_false}
+use Rattle.protocol.specs.Drawing.{list_hash, drawn_mask}
+use Rattle.challenge.proofs.Draws.{shifted, mask_more, mask_small, draw_start, draw_none, next_list}
 use Rattle.challenge.proofs.drawn_mask.Goals as goal
+use Rattle.challenge.proofs.drawn_mask.Goals.{then-list_chosen, else-list_chosen}
 
 pub loop-i-init : goal.loop-i-init
 unfolding drawn_mask
-loop-i-init c = (omega arith, (omega arith, (omega arith, draw_start (list_hash c.args.q.now) (2 * c.args.compared) c.args.compared)))
+loop-i-init c = record { few = omega arith; small = omega arith; rest = draw_start (list_hash c.args.q.now) (2 * c.args.compared) c.args.compared }
 
 pub overflow_add-mask : goal.overflow_add-mask
 overflow_add-mask c =
     let l = c.loop-i in
-    let bit = c.list_chosen-chosen.result in
-    let e = shifted bit l.i (omega arith) (omega arith) in
-    let m = mask_small (mask_more l.mask bit l.i (omega arith) (omega arith)) (omega arith) in
+    let e = shifted 1 l.i (omega arith) (omega arith) in
+    let m = mask_small (mask_more l.mask 1 l.i l.invariant.small (omega arith)) (omega arith) in
     omega arith
+
+pub overflow_sub-left : goal.overflow_sub-left
+overflow_sub-left c = let m = (below_iff _ _).0 (told_true c.list_chosen.ensures c.if-list_chosen.true) in omega arith
 
 pub loop-i-preserved : goal.loop-i-preserved
 loop-i-preserved c =
     let l = c.loop-i in
-    let args = c.args in
-    let lists = 2 * args.compared in
-    let bit = c.list_chosen-chosen.result in
-    let h = list_hash args.q.now in
-    let e = shifted bit l.i (omega arith) (omega arith) in
-    let k : lists - (l.i + 1) ≡ lists - l.i - 1 = omega arith in (
-      omega arith,
-      (
-        omega arith,
-        (
-          omega (arith, mask_more l.mask bit l.i (omega arith) (omega arith)),
-          ap₂ (λ (x n : ℕ). l.mask + x + draw_from h (l.i + 1) n (l.left - bit) * 2 ^ (l.i + 1)) e k
-              ∙ sym (draw_step h l.i (lists - l.i) l.left bit l.mask (omega arith) c.list_chosen-chosen.ensures.0)
-              ∙ l.invariant.1.1.1,
-        ),
-      ),
-    )
+    elim c.if-list_chosen.branch [
+      | then-list_chosen w ↦ next_list 1 l.invariant (omega arith) (omega arith) (ap one_if (sym (told_true c.list_chosen.ensures w.if-list_chosen.true)))
+          (w.mask-is ∙ ap (λ (x : ℕ). l.mask + x) (shifted 1 l.i (omega arith) (omega arith))) w.left-is
+      | else-list_chosen w ↦ next_list 0 l.invariant (omega arith) (omega arith) (ap one_if (sym (told_false c.list_chosen.ensures w.if-list_chosen.false)))
+          (omega (arith, w.mask-is)) (omega (arith, w.left-is))
+    ]
 
 pub returns : goal.returns
 returns c =
     let l = c.loop-i in
     let args = c.args in (
-      sym (draw_none (list_hash args.q.now) l.i (2 * args.compared - l.i) l.left l.mask (omega arith)) ∙ l.invariant.1.1.1,
-      mask_small l.invariant.1.1.0 (omega arith),
+      sym (draw_none (list_hash args.q.now) l.i (2 * args.compared - l.i) l.left l.mask (omega arith)) ∙ l.invariant.rest,
+      mask_small l.invariant.small (omega arith),
     )

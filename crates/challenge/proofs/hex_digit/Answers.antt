@@ -7,5 +7,5 @@ use Rattle.challenge.proofs.hex_digit.Goals as goal
 pub returns-then-v-lt10 : goal.returns-then-v-lt10
 returns-then-v-lt10 c = hex_is _ true (is_below c.if-v-lt10.true)
 
-pub returns : goal.returns
-returns c = hex_is _ false (not_below c.if-v-lt10.false)
+pub returns-else-v-lt10 : goal.returns-else-v-lt10
+returns-else-v-lt10 c = hex_is _ false (not_below c.if-v-lt10.false)

@@ -1,9 +1,8 @@
 -- `challenge::list_chosen` meets its contract: the first eight bytes of the hash, modulo the lists, are compared.
 use mathlib.Core.Path.{ap, ◌∙◌}
-use mathlib.Core.Bool.{true, false}
 use native.Mathlib.Omega.{arith}
 use lib.ListN.{length}
-use Rattle.laws.specs.Tests.{is_below, not_below}
+use Rattle.laws.specs.Tests.{below}
 use Rattle.challenge.proofs.Draws.{draw_length, list_hash_lem, chosen}
 use Rattle.challenge.proofs.list_chosen.Goals as goal
 
@@ -13,14 +12,8 @@ slice_bounds-read8-end c = omega (arith, ap length c.draw_hash.ensures ∙ draw_
 pub read8-h-requires : goal.read8-h-requires
 read8-h-requires c = omega (arith, ap length c.draw_hash.ensures ∙ draw_length _ _ _)
 
-pub returns-then-h-lists : goal.returns-then-h-lists
-returns-then-h-lists c =
-    let args = c.args in
-    let h = list_hash_lem args.q.now args.i c.read8-h.ensures.0 c.draw_hash.ensures in
-    (chosen args.lists args.left true h (is_below c.if-h-lists.true), omega (arith, c.if-h-lists.true))
-
 pub returns : goal.returns
+unfolding below
 returns c =
     let args = c.args in
-    let h = list_hash_lem args.q.now args.i c.read8-h.ensures.0 c.draw_hash.ensures in
-    (chosen args.lists args.left false h (not_below c.if-h-lists.false), omega (arith, c.if-h-lists.false))
+    chosen args.lists args.left (list_hash_lem args.q.now args.i c.read8-h.ensures.0 c.draw_hash.ensures)

@@ -9,25 +9,25 @@ use Rattle.protocol.specs.Drawing.{hex_digits}
 use Rattle.challenge.proofs.Digits.{hex_none, hex_more}
 use Rattle.challenge.proofs.put_hex.Goals as goal
 
-pub loop-i-init : goal.loop-i-init
-loop-i-init c = (omega arith, (omega arith, go_same (start _ _ (omega arith)) (hex_none c.args.s.now)))
+pub loop-b-init : goal.loop-b-init
+loop-b-init c = (omega arith, go_same (start _ _ (omega arith)) (hex_none c.args.s.now))
 
 pub hex_digit-requires : goal.hex_digit-requires
-hex_digit-requires c = omega (arith, c.type_inv.s c.loop-i.i)
+hex_digit-requires c = omega (arith, c.type_inv.s c.loop-b.b-index)
 
-pub bounds-out-next-in-loop-i : goal.bounds-out-next-in-loop-i
-bounds-out-next-in-loop-i c = simp length-set (omega arith)
+pub bounds-out-next-in-loop-b : goal.bounds-out-next-in-loop-b
+bounds-out-next-in-loop-b c = simp length-set (omega arith)
 
-pub loop-i-preserved : goal.loop-i-preserved
-loop-i-preserved c =
+pub loop-b-preserved : goal.loop-b-preserved
+loop-b-preserved c =
     let s = c.args.s.now in
-    let i = c.loop-i.i in
-    let two = ap₂ (λ (x y : ℕ). set (set c.loop-i.out c.loop-i.next x) (c.loop-i.next + 1) y) c.hex_digit.ensures c.hex_digit-in-loop-i.ensures
-    ∙ put_two c.loop-i.out c.loop-i.next _ _ (omega arith) in
-    (omega arith, (omega arith, go_same (go_on c.loop-i.invariant.1.1 (record { wrote = wrote two (omega arith); to = omega arith })) (hex_more s i (omega arith))))
+    let i = c.loop-b.b-index in
+    let two = ap₂ (λ (x y : ℕ). set (set c.loop-b.out c.loop-b.next x) (c.loop-b.next + 1) y) c.hex_digit.ensures c.hex_digit-in-loop-b.ensures
+    ∙ put_two c.loop-b.out c.loop-b.next _ _ (omega arith) in
+    (omega arith, go_same (go_on c.loop-b.invariant.1 (record { wrote = wrote two (omega arith); to = omega arith })) (hex_more s i (omega arith)))
 
 pub returns : goal.returns
 returns c =
     let s = c.args.s.now in
-    let e : c.loop-i.i ≡ length s = omega arith in
-    go_same c.loop-i.invariant.1.1 (ap (λ (k : ℕ). hex_digits (take k s)) e ∙ ap hex_digits (take-length s))
+    let e : c.loop-b.b-index ≡ length s = omega arith in
+    go_same c.loop-b.invariant.1 (ap (λ (k : ℕ). hex_digits (take k s)) e ∙ ap hex_digits (take-length s))

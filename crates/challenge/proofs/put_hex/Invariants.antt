@@ -1,13 +1,10 @@
--- `challenge::put_hex` meets its contract. The loop: the digits of the first i bytes are written.
+-- `challenge::put_hex` meets its contract. The loop: the digits of the bytes passed are written.
 use mathlib.Core.Path.{◌≡◌}
-use Prim.Native.Nat.{◌+◌, ◌*◌, ◌-◌, ◌≤◌}
-use lib.ListN.{length, take}
+use Prim.Native.Nat.{◌+◌, ◌*◌}
+use lib.ListN.{take}
 use Rattle.laws.specs.Writing.{Went}
 use Rattle.protocol.specs.Drawing.{hex_digits}
 use Rattle.challenge.proofs.put_hex.Given as goal
 
-abbrev pub invariant-loop-i : goal.invariant-loop-i
-invariant-loop-i l = (l.i ≤ length l.s) × ((l.next ≡ l.at + 2 * l.i) × Went l.initial.out l.at (hex_digits (take l.i l.s)) l.out l.next)
-
-abbrev pub decreases-loop-i : goal.decreases-loop-i
-decreases-loop-i l = length l.s - l.i
+abbrev pub invariant-loop-b : goal.invariant-loop-b
+invariant-loop-b l = (l.next ≡ l.at + 2 * l.b-index) × Went l.initial.out l.at (hex_digits (take l.b-index l.s)) l.out l.next

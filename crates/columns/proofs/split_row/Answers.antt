@@ -1,15 +1,10 @@
--- `columns::split_row` meets its contract: the first i places are written.
+-- `columns::split_row` meets its contract: each place is a second half.
 use native.Mathlib.Omega.{arith}
-use Rattle.laws.specs.Tables.{none_filled, one_filled, all_filled}
+use Rattle.std.proofs.lemmas.Grind.{common_steps}
+use Rattle.laws.specs.Tables.{tabulate_of}
 use Rattle.protocol.specs.Columns.{second_halves}
 use Rattle.columns.proofs.split_row.Goals as goal
 
-pub loop-i-init : goal.loop-i-init
-loop-i-init c = (omega arith, none_filled _ _)
-
-pub loop-i-preserved : goal.loop-i-preserved
-loop-i-preserved c = (omega arith, one_filled c.minus.result c.loop-i.invariant.1 (omega arith) c.minus.ensures.0)
-
 pub returns : goal.returns
 unfolding second_halves
-returns c = all_filled _ c.loop-i.invariant.1 (omega arith) (omega arith)
+returns c = tabulate_of _ _ _ (omega (arith, c.fill.ensures.0)) (λ j l. grind (arith, common_steps, c.fill.ensures.1 j (omega arith)))

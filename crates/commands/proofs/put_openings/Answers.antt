@@ -10,7 +10,7 @@ use Rattle.commands.proofs.Openings.{opening_is, length_opening_of}
 use Rattle.commands.proofs.put_openings.Goals as goal
 
 pub loop-k-init : goal.loop-k-init
-loop-k-init c = (omega arith, start _ _ (omega arith))
+loop-k-init c = start _ _ (omega arith)
 
 -- the slot of a turn is one of six, by what is required at that turn
 
@@ -32,20 +32,18 @@ put_opening-next-requires c =
     let six = c.requires.1.1 in (
       search rules,
       room_even (λ k. opening_of args.six args.keys.now (args.step * k + args.from)) 36 c.loop-k.k args.count
-          (λ i l. length_opening_of args.six args.keys.now (args.step * i + args.from) c.requires.0 (six i l)) c.loop-k.invariant.1
+          (λ i l. length_opening_of args.six args.keys.now (args.step * i + args.from) c.requires.0 (six i l)) c.loop-k.invariant
           c.requires.1.0 (omega arith),
     )
 
 pub loop-k-preserved : goal.loop-k-preserved
 loop-k-preserved c =
     let args = c.args in
-    let k = c.loop-k.k in (
-      omega arith,
-      go_turn (λ k. opening_of args.six args.keys.now (args.step * k + args.from)) k c.loop-k.invariant.1
-          (go_same c.put_opening-next.ensures (opening_is args.six args.keys.now (args.step * k + args.from))),
-    )
+    let k = c.loop-k.k in
+    go_turn (λ k. opening_of args.six args.keys.now (args.step * k + args.from)) k c.loop-k.invariant
+    (go_same c.put_opening-next.ensures (opening_is args.six args.keys.now (args.step * k + args.from)))
 
 pub returns : goal.returns
 returns c =
     let e : c.loop-k.k ≡ c.args.count = omega arith in
-    rw e at c.loop-k.invariant.1
+    rw e at c.loop-k.invariant

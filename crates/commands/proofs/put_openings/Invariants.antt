@@ -1,12 +1,9 @@
 -- `commands::put_openings` meets its contract. The loop: the first k openings are written.
-use Prim.Native.Nat.{◌+◌, ◌-◌, ◌*◌, ◌≤◌}
+use Prim.Native.Nat.{◌+◌, ◌*◌}
 use Rattle.laws.specs.Chunks.{chunks}
 use Rattle.laws.specs.Writing.{Went}
 use Rattle.commands.specs.Openings.{opening_of}
 use Rattle.commands.proofs.put_openings.Given as goal
 
 abbrev pub invariant-loop-k : goal.invariant-loop-k
-invariant-loop-k l = (l.k ≤ l.count) × Went l.initial.out l.at (chunks (λ k. opening_of l.six l.keys (l.step * k + l.from)) l.k) l.out l.next
-
-abbrev pub decreases-loop-k : goal.decreases-loop-k
-decreases-loop-k l = l.count - l.k
+invariant-loop-k l = Went l.initial.out l.at (chunks (λ k. opening_of l.six l.keys (l.step * k + l.from)) l.k) l.out l.next

@@ -12,30 +12,28 @@ use Rattle.commands.proofs.Openings.{opening_is}
 use Rattle.commands.proofs.put_six_commitments.Goals as goal
 
 pub loop-q-init : goal.loop-q-init
-loop-q-init c = (omega arith, start _ _ (omega arith))
+loop-q-init c = start _ _ (omega arith)
 
 pub put_commitment-next-requires : goal.put_commitment-next-requires
 put_commitment-next-requires c =
     let args = c.args in (
       search rules,
       room_even (λ q. commitment args.p (in_slot args.place q) (opening_of args.six args.keys.now q)) 32 c.loop-q.q 6
-          (λ i l. length_commitment _ _ _) c.loop-q.invariant.1 (omega arith) (omega arith),
+          (λ i l. length_commitment _ _ _) c.loop-q.invariant (omega arith) (omega arith),
     )
 
 pub loop-q-preserved : goal.loop-q-preserved
 loop-q-preserved c =
     let args = c.args in
-    let q = c.loop-q.q in (
-      omega arith,
-      go_turn (λ q. commitment args.p (in_slot args.place q) (opening_of args.six args.keys.now q)) q c.loop-q.invariant.1
-          (go_same c.put_commitment-next.ensures
-          (ap₂ (commitment args.p) c.in_slot-here.ensures (opening_is args.six args.keys.now q))),
-    )
+    let q = c.loop-q.q in
+    go_turn (λ q. commitment args.p (in_slot args.place q) (opening_of args.six args.keys.now q)) q c.loop-q.invariant
+    (go_same c.put_commitment-next.ensures
+    (ap₂ (commitment args.p) c.in_slot-here.ensures (opening_is args.six args.keys.now q)))
 
 pub shape_of-out : goal.shape_of-out
-shape_of-out c = omega (arith, c.loop-q.invariant.1.wrote.long)
+shape_of-out c = omega (arith, c.loop-q.invariant.wrote.long)
 
 pub returns : goal.returns
 returns c =
     let e : c.loop-q.q ≡ 6 = omega arith in
-    rw e at c.loop-q.invariant.1
+    rw e at c.loop-q.invariant

@@ -1,5 +1,4 @@
 -- `commands::put_six_commitments` meets its contract. The loop: the first q commitments are written.
-use Prim.Native.Nat.{◌-◌, ◌≤◌}
 use Rattle.laws.specs.Chunks.{chunks}
 use Rattle.laws.specs.Writing.{Went}
 use Rattle.protocol.specs.Terms.{commitment}
@@ -8,7 +7,4 @@ use Rattle.commands.specs.Openings.{opening_of}
 use Rattle.commands.proofs.put_six_commitments.Given as goal
 
 abbrev pub invariant-loop-q : goal.invariant-loop-q
-invariant-loop-q l = (l.q ≤ 6) × Went l.initial.out l.at (chunks (λ q. commitment l.p (in_slot l.place q) (opening_of l.six l.keys q)) l.q) l.out l.next
-
-abbrev pub decreases-loop-q : goal.decreases-loop-q
-decreases-loop-q l = 6 - l.q
+invariant-loop-q l = Went l.initial.out l.at (chunks (λ q. commitment l.p (in_slot l.place q) (opening_of l.six l.keys q)) l.q) l.out l.next

@@ -1,16 +1,8 @@
 -- `comparison::write` meets its contract: the dice and the mask, and the links behind them, fill the buffer.
 use native.Mathlib.Omega.{arith}
-use Rattle.protocol.specs.Inputs.{Slices, given}
 use Rattle.protocol.proofs.Widths.{length_first_dice}
 use Rattle.comparison.proofs.Compared.{part_written}
 use Rattle.comparison.proofs.write.Goals as goal
-use Rattle.comparison.proofs.write.Goals.{Start}
-
--- the slices that it is lent
-abbrev slices : Start → Slices
-slices c =
-    let a = c.args in
-    given a.p a.ids.now a.votes.now a.numbers.now a.permutations.now a.keys.now
 
 pub put_compared-requires : goal.put_compared-requires
 put_compared-requires c =
@@ -21,4 +13,4 @@ put_compared-requires c =
 pub returns : goal.returns
 returns c =
     let (passed, (is30, (shape, long))) = c.requires in
-    part_written (slices (goal.at.returns c).Start) c.args.mask shape c.args.dice.now is30 long c.put_first_dice-next.ensures c.put_compared.ensures
+    part_written c.args.s.now c.args.mask shape c.args.dice.now is30 long c.put_first_dice-next.ensures c.put_compared.ensures

@@ -9,16 +9,16 @@ use Rattle.protocol.specs.Drawing.{drawn_sides, drawn_side}
 use Rattle.disclosure.proofs.fill_sides.Goals as goal
 
 pub loop-j-init : goal.loop-j-init
-loop-j-init c = (omega arith, none_filled _ _)
+loop-j-init c = none_filled _ _
 
 pub loop-j-preserved : goal.loop-j-preserved
 loop-j-preserved c =
     let g = c.loop-j in
-    (omega arith, one_filled _ g.invariant.1 (omega arith) c.drawn_side.ensures.0)
+    one_filled _ g.invariant (omega arith) c.drawn_side.ensures.0
 
 pub returns : goal.returns
 unfolding drawn_sides
 returns c =
     let s = c.args in
     let g = c.loop-j in
-    all_filled (length s.out.now) g.invariant.1 (omega arith) refl ∙ ap (λ (q : List ℕ). tabulate (drawn_side q) (length s.out.now)) c.text_of-text.ensures
+    all_filled (length s.out.now) g.invariant (omega arith) refl ∙ ap (λ (q : List ℕ). tabulate (drawn_side q) (length s.out.now)) c.text_of-text.ensures

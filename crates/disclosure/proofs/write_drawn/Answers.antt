@@ -4,17 +4,10 @@ use mathlib.Core.List.{List, ◌++◌}
 use Prim.Native.Nat.{ℕ}
 use lib.ListN.{length}
 use Rattle.protocol.specs.Drawing.{drawn_sides, challenge}
-use Rattle.protocol.specs.Inputs.{Slices, given}
 use Rattle.protocol.specs.Servers.{third_part, sides_for}
 use Rattle.disclosure.proofs.Unrefused.{drawn}
 use Rattle.disclosure.proofs.write_drawn.Goals as goal
 use Rattle.disclosure.proofs.write_drawn.Goals.{Start}
-
--- the slices that it is lent
-abbrev slices : Start → Slices
-slices c =
-    let a = c.args in
-    given a.p a.ids.now a.votes.now a.numbers.now a.permutations.now a.keys.now
 
 -- what the sides are drawn from
 abbrev text : Start → List ℕ
@@ -26,10 +19,10 @@ as_many v n k q e h = e ∙ ap (λ (x : ℕ). drawn_sides x q) h
 
 pub write-requires : goal.write-requires
 write-requires c =
-    drawn (slices (goal.at.write-requires c).Start) c.args.dice.now c.args.mask _ _ (text (goal.at.write-requires c).Start) c.requires.0 (as_many _ c.args.p.ballots (length c.args.sides.now) (text (goal.at.write-requires c).Start) c.fill_sides.ensures c.requires.1)
+    drawn c.args.s.now c.args.dice.now c.args.mask _ _ (text (goal.at.write-requires c).Start) c.requires.0 (as_many _ c.args.s.now.parameters.ballots (length c.args.sides.now) (text (goal.at.write-requires c).Start) c.fill_sides.ensures c.requires.1)
 
 pub returns : goal.returns
 unfolding sides_for
 returns c =
     c.write.ensures
-    ∙ ap (third_part (slices (goal.at.returns c).Start) c.args.dice.now c.args.mask) (as_many _ c.args.p.ballots (length c.args.sides.now) (text (goal.at.returns c).Start) c.fill_sides.ensures c.requires.1)
+    ∙ ap (third_part c.args.s.now c.args.dice.now c.args.mask) (as_many _ c.args.s.now.parameters.ballots (length c.args.sides.now) (text (goal.at.returns c).Start) c.fill_sides.ensures c.requires.1)

@@ -1,34 +1,23 @@
 -- `election::hold` meets its contract: inputs that are not refused give a record that the judge accepts, so that it never rejects.
 use mathlib.Core.Path.{sym}
-use native.Mathlib.Omega.{arith}
-use Rattle.laws.specs.Bytes.{Below}
-use Rattle.protocol.specs.Terms.{parameters}
-use Rattle.protocol.specs.Inputs.{given}
+use Rattle.std.proofs.Common.{subst}
+use Rattle.protocol.specs.Inputs.{Slices}
 use Rattle.protocol.proofs.Goodness.{FourBytes}
-use Rattle.election.proofs.Numbered.{number_fits}
 use Rattle.election.proofs.Ending.{held_refused, held_accepted, never_rejected}
 use Rattle.election.proofs.hold.Goals as goal
-use Rattle.election.proofs.hold.Goals.{Else-k-ne0}
+use Rattle.election.proofs.hold.Goals.{After-fit}
 
-ids_fit : (c : Else-k-ne0) → Below 4294967296 c.args.ids.now
-ids_fit c i l = omega (arith, c.type_inv.ids i)
+fits : (c : After-fit) → FourBytes c.args.s.now
+fits c =
+    subst (λ (s : Slices). FourBytes s) c.s.view_is
+    (record { ids = c.fit.ensures.1; election = c.fit.ensures.0 })
 
-fits : (c : Else-k-ne0)
-    → (let s = c.args in
-    FourBytes (given (parameters s.form s.modulus s.ballots s.compared) s.ids.now s.votes.now s.numbers.now s.permutations.now s.keys.now))
-fits c = record {
-  ids = ids_fit c;
-  election = number_fits _ _ c.well_formed.1.1.0;
-}
+pub returns-in-Err : goal.returns-in-Err
+returns-in-Err c = held_refused _ _ _ c.in-Err.ensures
 
-pub returns-then-k-ne0 : goal.returns-then-k-ne0
-returns-then-k-ne0 c = held_refused _ _ _ c.election-k.ensures c.if-k-ne0.true
+pub returns-in-Ok : goal.returns-in-Ok
+returns-in-Ok c = held_accepted _ _ c.in_default.ensures (fits (goal.at.returns-in-Ok c).After-fit) c.write.ensures
 
-pub returns-in-Accepted : goal.returns-in-Accepted
-returns-in-Accepted c =
-    held_accepted _ _ c.election-k.ensures c.if-k-ne0.false (fits (goal.at.returns-in-Accepted c).Else-k-ne0) c.write.ensures
-
-pub returns-in-Refused : goal.returns-in-Refused
-returns-in-Refused c =
-    absurd
-    (never_rejected _ _ _ _ _ c.election-k.ensures c.if-k-ne0.false (fits (goal.at.returns-in-Refused c).Else-k-ne0) c.write.ensures (sym c.in-Refused.ensures))
+pub returns-in-Err-judge_plainly : goal.returns-in-Err-judge_plainly
+returns-in-Err-judge_plainly c =
+    absurd (never_rejected _ _ _ _ _ c.in_default.ensures (fits (goal.at.returns-in-Err-judge_plainly c).After-fit) c.write.ensures (sym c.in-Err-judge_plainly.ensures))

@@ -15,6 +15,6 @@ behind n m k old part h l =
 pub loop-n-preserved : goal.loop-n-preserved
 loop-n-preserved g c =
     let at = c.loop-n in
-    let read = c.in-Ok.ensures in
-    let moved = behind at.n (length at.buf - at.n) c.in-Ok.k at.buf c.read.new.buf at.invariant.1 read.bound.0 in
+    let read = c.in_ok-k.ensures in
+    let moved = behind at.n (length at.buf - at.n) c.in_ok-k.k at.buf c.read.new.buf at.invariant.1 read.bound.0 in
     (search rules, search rules, subst (Consumes _ _) (sym moved) (Consumes-trans _ _ _ _ _ at.invariant.2 read.bytes.0))

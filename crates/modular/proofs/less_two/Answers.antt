@@ -1,5 +1,4 @@
 -- `modular::less_two` meets its contract: one after the other.
-use borrow.Author.Rules.{rules}
 use Rattle.modular.proofs.less_two.Goals as goal
 
 pub returns : goal.returns

@@ -1,5 +1,4 @@
 -- `modular::sum_of_three` meets its contract: two, then the third.
-use borrow.Author.Rules.{rules}
 use Rattle.modular.proofs.sum_of_three.Goals as goal
 
 pub returns : goal.returns

@@ -21,7 +21,7 @@ use Rattle.opening_rules.specs.Opened.{opening_at}
 use Rattle.opening_rules.proofs.Posted.{goes_on, breaks, implies_on, implies_off}
 use Rattle.opening_rules.proofs.Places.{entry_before, votes_before, full_first, full_steps, vote_steps}
 use Rattle.opening_rules.proofs.full_rules.Goals as goal
-use Rattle.opening_rules.proofs.full_rules.Goals.{After-at_vote-votes, After-list_permutes, After-openings_give, Else-not-numbers_below, Else-not-openings_give, Else-read1-l, Else-read2-i, Start, Then-i-p}
+use Rattle.opening_rules.proofs.full_rules.Goals.{After-at_vote-votes, After-list_permutes, After-openings_give, Else-not-numbers_below, Else-not-openings_give, Else-read1-l, Else-read2-i, Start, Then-i-p, then-read1-l-via-then-read1-l, then-read1-l-via-else-read1-l+then-read2-i}
 
 -- ---- the rules, at the place where the command starts
 
@@ -111,10 +111,12 @@ permuted_read c =
 -- ----
 
 pub returns-then-read1-l : goal.returns-then-read1-l
-returns-then-read1-l c = breaks 4 _ _ (begun (goal.at.returns-then-read1-l c).Start) (not_equal (λ e. omega arith))
-
-pub returns-then-read2-i : goal.returns-then-read2-i
-returns-then-read2-i c = breaks 4 _ _ (past_list (goal.at.returns-then-read2-i c).Else-read1-l) (not_equal (λ e. omega arith))
+returns-then-read1-l c =
+    let begin = begun (goal.at.returns-then-read1-l c).Start in
+    elim c.then-read1-l.branch [
+      | then-read1-l-via-then-read1-l w ↦ breaks 4 _ _ begin (not_equal (λ e. omega arith))
+      | then-read1-l-via-else-read1-l+then-read2-i w ↦ breaks 4 _ _ (goes_on 4 _ _ begin (is_equal (omega arith))) (not_equal (λ e. omega arith))
+    ]
 
 pub returns-then-not-numbers_below : goal.returns-then-not-numbers_below
 returns-then-not-numbers_below c = breaks 10 _ _ (past_position (goal.at.returns-then-not-numbers_below c).Else-read2-i) (sym c.numbers_below.ensures ∙ c.if-not-numbers_below.true)

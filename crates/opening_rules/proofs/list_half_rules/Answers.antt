@@ -16,7 +16,8 @@ use Rattle.protocol.specs.Terms.{sum_of_three}
 use Rattle.protocol.specs.Layout.{at_entry, at_first_dice, at_link, at_ballot_half}
 use Rattle.protocol.specs.Record.{entry_commitment_of, mask_of, link_place, position_of, shift_of, side_of, ballot_opening_of, list_half_place, list_opening_of}
 use Rattle.protocol.specs.Rules.{numbers_below, gives, agrees, list_half_rules}
-use Rattle.opening_rules.specs.Opened.{opening_at}
+use Rattle.opening_rules.specs.Opened.{opening_at, sum_of}
+use Rattle.opening_rules.proofs.Numbers.{three_summed}
 use Rattle.opening_rules.proofs.Posted.{goes_on, breaks}
 use Rattle.opening_rules.proofs.Places.{first_dice_before, entry_before, link_before, half_before}
 use Rattle.opening_rules.proofs.list_half_rules.Goals as goal
@@ -133,8 +134,9 @@ agreed_read : (c : After-halves_agree) → c.halves_agree.result ≡ agreed c.ar
 agreed_read c =
     let M = c.args.p.modulus in
     let side = side_read (goal.at.After-halves_agree c).After-read1-side in
-    let ballot = c.sum_of_three-ballot.ensures.0 ∙ ap (sum_of_three M) (half_read (goal.at.After-halves_agree c).After-at_ballot_half-half) in
-    let list = c.sum_of_three-list.ensures.0 in
+    let half = half_read (goal.at.After-halves_agree c).After-at_ballot_half-half in
+    let ballot = c.sum-ballot.ensures.0 ∙ ap (λ (o : ℕ → List ℕ). sum_of M o 3) half ∙ three_summed M _ c.requires.known.numbers in
+    let list = c.sum-list.ensures.0 ∙ three_summed M _ (numbers_kept (goal.at.After-halves_agree c).Else-not-numbers_below) in
     let t = shift_read (goal.at.After-halves_agree c).After-read4 in
     c.halves_agree.ensures ∙ agrees_same M side ballot list t
 
@@ -180,18 +182,18 @@ openings_give-requires c =
 pub returns-then-not-openings_give : goal.returns-then-not-openings_give
 returns-then-not-openings_give c = breaks 13 _ _ (past_numbers (goal.at.returns-then-not-openings_give c).Else-not-numbers_below) (sym (given (goal.at.returns-then-not-openings_give c).After-openings_give) ∙ c.if-not-openings_give.true)
 
-pub sum_of_three-ballot-requires : goal.sum_of_three-ballot-requires
-sum_of_three-ballot-requires c =
-    (omega (arith, half_inside (goal.at.sum_of_three-ballot-requires c).Start, c.at_ballot_half-half.ensures.0), ap (λ (o : ℕ → List ℕ). numbers_below c.args.p.modulus o 3) (half_read (goal.at.sum_of_three-ballot-requires c).After-at_ballot_half-half) ∙ c.requires.known.numbers)
+pub sum-ballot-requires : goal.sum-ballot-requires
+sum-ballot-requires c =
+    (omega arith, omega arith, omega (arith, half_inside (goal.at.sum-ballot-requires c).Start, c.at_ballot_half-half.ensures.0), ap (λ (o : ℕ → List ℕ). numbers_below c.args.p.modulus o 3) (half_read (goal.at.sum-ballot-requires c).After-at_ballot_half-half) ∙ c.requires.known.numbers)
 
-pub sum_of_three-list-requires : goal.sum_of_three-list-requires
-sum_of_three-list-requires c = (omega (arith, c.requires.whole), numbers_kept (goal.at.sum_of_three-list-requires c).Else-not-numbers_below)
+pub sum-list-requires : goal.sum-list-requires
+sum-list-requires c = (omega arith, omega arith, omega (arith, c.requires.whole), numbers_kept (goal.at.sum-list-requires c).Else-not-numbers_below)
 
 pub read4-requires : goal.read4-requires
 read4-requires c = omega (arith, link_inside (goal.at.read4-requires c).Start, link_read (goal.at.read4-requires c).After-at_link-link)
 
 pub halves_agree-requires : goal.halves_agree-requires
-halves_agree-requires c = (c.sum_of_three-list.ensures.1, omega (arith, shift_read c, c.requires.known.shift))
+halves_agree-requires c = (c.sum-list.ensures.1, omega (arith, shift_read c, c.requires.known.shift))
 
 pub returns-then-not-halves_agree : goal.returns-then-not-halves_agree
 returns-then-not-halves_agree c = breaks 14 _ _ (past_openings (goal.at.returns-then-not-halves_agree c).Else-not-openings_give) (sym (agreed_read (goal.at.returns-then-not-halves_agree c).After-halves_agree) ∙ c.if-not-halves_agree.true)

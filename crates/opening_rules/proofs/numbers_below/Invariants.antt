@@ -2,7 +2,7 @@
 use mathlib.Core.Path.{◌≡◌}
 use mathlib.Core.Bool.{Bool, true}
 use mathlib.Core.List.{List}
-use Prim.Native.Nat.{ℕ, ◌-◌, ◌≤◌}
+use Prim.Native.Nat.{ℕ}
 use Rattle.laws.specs.Tests.{below, every}
 use Rattle.protocol.specs.Terms.{opened}
 use Rattle.opening_rules.specs.Opened.{opening_at}
@@ -12,7 +12,4 @@ abbrev pub small : ℕ → List ℕ → ℕ → ℕ → Bool
 small M r at i = below (opened (opening_at r at i)) M
 
 abbrev pub invariant-loop-i : goal.invariant-loop-i
-invariant-loop-i l = (l.i ≤ l.k) × (every (small l.modulus l.bytes l.at) l.i ≡ true)
-
-abbrev pub decreases-loop-i : goal.decreases-loop-i
-decreases-loop-i l = l.k - l.i
+invariant-loop-i l = every (small l.modulus l.bytes l.at) l.i ≡ true

@@ -21,7 +21,7 @@ asked c = rw c.in_slot-slot.ensures at c.gives.ensures
 
 pub loop-i-init : goal.loop-i-init
 unfolding every
-loop-i-init c = (omega arith, refl)
+loop-i-init c = refl
 
 pub overflow_mul-q : goal.overflow_mul-q
 overflow_mul-q c = omega (arith, posted_in c)
@@ -44,9 +44,9 @@ returns-then-not-gives c =
 
 pub loop-i-preserved : goal.loop-i-preserved
 loop-i-preserved c =
-    (omega arith, every_more _ c.loop-i.i c.loop-i.invariant.1 (sym (asked (goal.at.loop-i-preserved c).After-gives) ∙ c.if-not-gives.false))
+    every_more _ c.loop-i.i c.loop-i.invariant (sym (asked (goal.at.loop-i-preserved c).After-gives) ∙ c.if-not-gives.false)
 
 pub returns : goal.returns
 returns c =
     let e : c.loop-i.i ≡ c.args.k = omega arith in
-    sym (rw e at c.loop-i.invariant.1)
+    sym (rw e at c.loop-i.invariant)

@@ -2,7 +2,7 @@
 use mathlib.Core.Path.{◌≡◌}
 use mathlib.Core.Bool.{Bool, true}
 use mathlib.Core.List.{List}
-use Prim.Native.Nat.{ℕ, ◌+◌, ◌*◌, ◌-◌, ◌≤◌}
+use Prim.Native.Nat.{ℕ, ◌+◌, ◌*◌}
 use Rattle.laws.specs.Tests.{every}
 use Rattle.laws.specs.Chunks.{piece}
 use Rattle.protocol.specs.declared.Parameters.{Parameters}
@@ -16,7 +16,4 @@ abbrev pub right : Parameters → Place → List ℕ → ℕ → ℕ → ℕ →
 right p place r at posted from step i = gives p (in_slot place (step * i + from)) (opening_at r at i) (piece r (posted + 32 * (step * i + from)) 32)
 
 abbrev pub invariant-loop-i : goal.invariant-loop-i
-invariant-loop-i l = (l.i ≤ l.k) × (every (right l.p l.place l.bytes l.at l.posted l.from l.step) l.i ≡ true)
-
-abbrev pub decreases-loop-i : goal.decreases-loop-i
-decreases-loop-i l = l.k - l.i
+invariant-loop-i l = every (right l.p l.place l.bytes l.at l.posted l.from l.step) l.i ≡ true

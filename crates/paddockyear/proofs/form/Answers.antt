@@ -18,5 +18,5 @@ unnumbered flag election h = rw (not_differ h)
 pub returns-then-numbered-ne0 : goal.returns-then-numbered-ne0
 returns-then-numbered-ne0 c = numbered _ _ c.if-numbered-ne0.true
 
-pub returns : goal.returns
-returns c = unnumbered _ _ c.if-numbered-ne0.false
+pub returns-else-numbered-ne0 : goal.returns-else-numbered-ne0
+returns-else-numbered-ne0 c = unnumbered _ _ c.if-numbered-ne0.false

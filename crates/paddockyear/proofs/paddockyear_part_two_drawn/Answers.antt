@@ -4,5 +4,5 @@ use Rattle.paddockyear.proofs.paddockyear_part_two_drawn.Goals as goal
 
 pub returns : goal.returns
 returns c =
-    let wrote = rw c.form.ensures at c.part_two_drawn.ensures in
+    let wrote = rw c.parameters.ensures at c.part_two_drawn.ensures in
     (code_of_lem _ wrote.0 c.written_code.ensures, wrote.1)

@@ -1,22 +1,30 @@
 -- `paddockyear::receipt_code` meets its contract, case by case.
-use mathlib.Core.Path.{sym, ap}
+use mathlib.Core.Path.{◌≡◌, sym, ap, ◌∙◌}
+use Rattle.std.specs.Prelude.{Result, Ok}
+use Rattle.protocol.specs.declared.Rule.{Rule}
 use Rattle.protocol.specs.declared.Receipt.{Receipt}
 use Rattle.protocol.specs.Answers.{receipt_answer}
 use Rattle.paddockyear.specs.Codes.{receipt_code}
 use Rattle.paddockyear.proofs.receipt_code.Goals as goal
 
-pub returns-in-AsPrinted : goal.returns-in-AsPrinted
-unfolding receipt_code
-returns-in-AsPrinted c = sym (ap (λ (a : Receipt). receipt_code (receipt_answer a)) c.in-AsPrinted.is)
+code_at : {r s : Result Receipt Rule} → r ≡ s → receipt_code (receipt_answer s) ≡ receipt_code (receipt_answer r)
+code_at e = sym (ap (λ (r : Result Receipt Rule). receipt_code (receipt_answer r)) e)
 
-pub returns-in-Otherwise : goal.returns-in-Otherwise
-unfolding receipt_code
-returns-in-Otherwise c = sym (ap (λ (a : Receipt). receipt_code (receipt_answer a)) c.in-Otherwise.is)
+found : {r : Result Receipt Rule} {x y : Receipt} → r ≡ Ok x → x ≡ y → receipt_code (receipt_answer (Ok y)) ≡ receipt_code (receipt_answer r)
+found {r} {x} {y} is same = code_at (is ∙ ap (λ (z : Receipt). Ok z) same)
 
-pub returns-in-NotPosted : goal.returns-in-NotPosted
+pub returns-in-Ok-AsPrinted : goal.returns-in-Ok-AsPrinted
 unfolding receipt_code
-returns-in-NotPosted c = sym (ap (λ (a : Receipt). receipt_code (receipt_answer a)) c.in-NotPosted.is)
+returns-in-Ok-AsPrinted c = found c.in-Ok-AsPrinted.is (rw c.in-Ok-AsPrinted.is at c.in-Ok-AsPrinted.field-0-is)
 
-pub returns-in-Refused : goal.returns-in-Refused
+pub returns-in-Ok-Otherwise : goal.returns-in-Ok-Otherwise
 unfolding receipt_code
-returns-in-Refused c = sym (ap (λ (a : Receipt). receipt_code (receipt_answer a)) c.in-Refused.is)
+returns-in-Ok-Otherwise c = found c.in-Ok-Otherwise.is (rw c.in-Ok-Otherwise.is at c.in-Ok-Otherwise.field-0-is)
+
+pub returns-in-Ok-NotPosted : goal.returns-in-Ok-NotPosted
+unfolding receipt_code
+returns-in-Ok-NotPosted c = found c.in-Ok-NotPosted.is (rw c.in-Ok-NotPosted.is at c.in-Ok-NotPosted.field-0-is)
+
+pub returns-in-Err : goal.returns-in-Err
+unfolding receipt_code
+returns-in-Err c = c.number.ensures.0 ∙ code_at c.in-Err.is

@@ -23,13 +23,13 @@ row_ends c m n h = omega (arith, mul-le-mul_right {m = suc c} {n = 6 * m} n h)
 
 pub loop-c-init : goal.loop-c-init
 unfolding every
-loop-c-init c = (omega arith, refl)
+loop-c-init c = refl
 
 pub overflow_mul-from : goal.overflow_mul-from
 overflow_mul-from c = omega (arith, row_ends c.loop-c.c c.args.p.compared c.args.p.ballots (omega arith))
 
-pub overflow_add-to : goal.overflow_add-to
-overflow_add-to c = omega (arith, row_ends c.loop-c.c c.args.p.compared c.args.p.ballots (omega arith))
+pub overflow_add-from : goal.overflow_add-from
+overflow_add-from c = omega (arith, row_ends c.loop-c.c c.args.p.compared c.args.p.ballots (omega arith))
 
 pub offset_bounds-permutations-from : goal.offset_bounds-permutations-from
 offset_bounds-permutations-from c = omega (arith, row_ends c.loop-c.c c.args.p.compared c.args.p.ballots (omega arith))
@@ -55,15 +55,13 @@ returns-then-not-is_permutation c =
 pub loop-c-preserved : goal.loop-c-preserved
 loop-c-preserved c =
     let at = c in
-    let args = at.args in (
-      omega arith,
-      every_more (permutation_at args.p.ballots args.permutations.now) at.loop-c.c at.loop-c.invariant.1
-          (sym (ap (λ (l : List ℕ). is_permutation args.p.ballots (item l)) (lent args.permutations.now at.loop-c.c args.p.ballots)) ∙ told_true c.is_permutation.ensures c.if-not-is_permutation.false),
-    )
+    let args = at.args in
+    every_more (permutation_at args.p.ballots args.permutations.now) at.loop-c.c at.loop-c.invariant
+    (sym (ap (λ (l : List ℕ). is_permutation args.p.ballots (item l)) (lent args.permutations.now at.loop-c.c args.p.ballots)) ∙ told_true c.is_permutation.ensures c.if-not-is_permutation.false)
 
 pub returns : goal.returns
 unfolding permutations_in
 returns c =
     let at = c in
     let e : at.loop-c.c ≡ 6 * at.args.p.compared = omega arith in
-    sym (rw e at at.loop-c.invariant.1)
+    sym (rw e at at.loop-c.invariant)

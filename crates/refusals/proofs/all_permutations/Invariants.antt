@@ -2,7 +2,7 @@
 use mathlib.Core.Path.{◌≡◌}
 use mathlib.Core.Bool.{Bool, true}
 use mathlib.Core.List.{List}
-use Prim.Native.Nat.{ℕ, ◌-◌, ◌*◌, ◌≤◌}
+use Prim.Native.Nat.{ℕ, ◌*◌}
 use Rattle.laws.specs.Tests.{every}
 use Rattle.laws.specs.Chunks.{piece}
 use Rattle.protocol.specs.Terms.{item}
@@ -13,7 +13,4 @@ abbrev pub permutation_at : ℕ → List ℕ → ℕ → Bool
 permutation_at n permutations c = is_permutation n (item (piece permutations (c * n) n))
 
 abbrev pub invariant-loop-c : goal.invariant-loop-c
-invariant-loop-c l = (l.c ≤ 6 * l.p.compared) × (every (permutation_at l.p.ballots l.permutations) l.c ≡ true)
-
-abbrev pub decreases-loop-c : goal.decreases-loop-c
-decreases-loop-c l = 6 * l.p.compared - l.c
+invariant-loop-c l = every (permutation_at l.p.ballots l.permutations) l.c ≡ true

@@ -1,22 +1,12 @@
--- `refusals::mask_in_shape` meets its contract, by the switch.
-use mathlib.Core.Path.{◌≡◌, ◌∙◌}
-use mathlib.Core.Bool.{Bool, true, false}
-use Prim.Native.Nat.{ℕ}
-use Rattle.protocol.specs.declared.Parameters.{Parameters}
-use Rattle.protocol.specs.Rules.{right_shape}
-use Rattle.protocol.specs.Election.{choice_of, mask_in_shape}
+-- `refusals::mask_in_shape` meets its contract, in either case.
+use mathlib.Core.Path.{refl}
+use Rattle.protocol.specs.Election.{mask_in_shape}
 use Rattle.refusals.proofs.mask_in_shape.Goals as goal
 
-off : (p : Parameters) (b : Bool) (mask : ℕ) → b ≡ false → true ≡ mask_in_shape p (choice_of b mask)
-unfolding choice_of mask_in_shape
-off p b mask e = rw e
+pub returns-in-Some : goal.returns-in-Some
+unfolding mask_in_shape
+returns-in-Some c = rw c.in-Some.is (c.right_shape.ensures)
 
-on : (p : Parameters) (b : Bool) (mask : ℕ) → b ≡ true → right_shape p.compared mask ≡ mask_in_shape p (choice_of b mask)
-unfolding choice_of mask_in_shape
-on p b mask e = rw e
-
-pub returns-then-not-mask_given : goal.returns-then-not-mask_given
-returns-then-not-mask_given c = off _ _ _ (c.if-not-mask_given.true)
-
-pub returns : goal.returns
-returns c = c.right_shape.ensures ∙ on _ _ _ (c.if-not-mask_given.false)
+pub returns-in-None : goal.returns-in-None
+unfolding mask_in_shape
+returns-in-None c = rw c.in-None.is refl

@@ -1,56 +1,59 @@
 -- `refusals::part_three` meets its contract: limits, lengths, then the rest.
-use mathlib.Core.Path.{◌≡◌, ◌∙◌}
+use mathlib.Core.Path.{◌≡◌, sym, ap, ◌∙◌}
 use mathlib.Core.Bool.{true}
 use native.Mathlib.Omega.{arith}
-use lib.ListN.{length}
-use Rattle.laws.specs.Tests.{equal, ◌and◌, equal_iff, and_iff, equal_is, told_true, told_false}
+use Rattle.laws.specs.Tests.{and_iff, is_equal, not_equal, and_go, and_stop, told_true, told_false}
+use Rattle.protocol.specs.declared.Parameters.{Parameters}
 use Rattle.protocol.specs.Terms.{in_limits}
 use Rattle.protocol.specs.Layout.{part_three_length}
+use Rattle.protocol.specs.Rules.{right_shape}
+use Rattle.protocol.specs.Inputs.{Slices}
 use Rattle.protocol.specs.Refusals.{part_three_refusal}
 use Rattle.layout.specs.Bounds.{Few}
-use Rattle.refusals.proofs.Tests.{limits_few, limits_known, long, pair, thirty, outside, undue, due, fair_whole, binary_is}
+use Rattle.refusals.proofs.Tests.{limits_few, limits_known, outside, undue, due, fair_whole, binary_is}
 use Rattle.refusals.proofs.part_three.Goals as goal
-use Rattle.refusals.proofs.part_three.Goals.{After-both, Else-not-both, Else-not-in_limits}
+use Rattle.refusals.proofs.part_three.Goals.{Else-not-in_limits, then-not-dice_due-via-then-not-dice_due, then-not-dice_due-via-else-not-dice_due+then-sides-p, then-not-dice_due-via-else-not-dice_due+else-sides-p+then-out_len-part_three_length}
 
-limits : (c : Else-not-in_limits) → in_limits c.args.p ≡ true
-limits c = told_true c.in_limits.ensures c.if-not-in_limits.false
+same : (c : Else-not-in_limits) → c.s.inside.parameters ≡ c.args.s.now.parameters
+same c = ap (λ (s : Slices). s.parameters) c.s.view_is
 
-few : (c : Else-not-in_limits) → Few c.args.p
-few c = limits_few _ (limits c)
+limits : (c : Else-not-in_limits) → in_limits c.args.s.now.parameters ≡ true
+limits c = ap in_limits (sym (same c)) ∙ told_true c.in_limits.ensures c.if-not-in_limits.false
 
--- the lengths as they were compared; and 30 dice, behind them
-lengths : (c : After-both) → let s = c.args in c.both.result ≡ (equal (length s.dice.now) 30 and equal (length s.sides.now) s.p.ballots and equal s.out_len (part_three_length s.p))
-lengths c =
-    pair c.both.ensures (equal_is _ _) (pair c.both-parts.ensures (equal_is _ _) (long _ c.part_three_length.ensures))
-
-dice_long : (c : Else-not-both) → length c.args.dice.now ≡ 30
-dice_long c = thirty c.args.dice.now _ (told_true (lengths (goal.at.Else-not-both c).After-both) c.if-not-both.false)
-
-sides_long : (c : Else-not-both) → length c.args.sides.now ≡ c.args.p.ballots
-sides_long c = (equal_iff _ _).0 ((and_iff _ _).0 ((and_iff _ _).0 (told_true (lengths (goal.at.Else-not-both c).After-both) c.if-not-both.false)).1).0
-
-pub part_three_length-requires : goal.part_three_length-requires
-part_three_length-requires c = few (goal.at.part_three_length-requires c).Else-not-in_limits
-
-pub fair_dice-fair-requires : goal.fair_dice-fair-requires
-fair_dice-fair-requires c = omega (arith, dice_long (goal.at.fair_dice-fair-requires c).Else-not-both)
-
-pub right_shape-shape-requires : goal.right_shape-shape-requires
-right_shape-shape-requires c = (few (goal.at.right_shape-shape-requires c).Else-not-in_limits).compared
+few : (c : Else-not-in_limits) → Few c.s.inside.parameters
+few c = limits_few _ (told_true c.in_limits.ensures c.if-not-in_limits.false)
 
 pub refuse-requires : goal.refuse-requires
 refuse-requires c = limits_known _ (limits (goal.at.refuse-requires c).Else-not-in_limits)
 
 pub returns-then-not-in_limits : goal.returns-then-not-in_limits
 unfolding part_three_refusal
-returns-then-not-in_limits c = outside _ _ _ _ _ (told_false c.in_limits.ensures c.if-not-in_limits.true)
+returns-then-not-in_limits c =
+    outside _ _ _ _ _ (ap (λ (s : Slices). in_limits s.parameters) (sym c.s.view_is) ∙ told_false c.in_limits.ensures c.if-not-in_limits.true)
 
-pub returns-then-not-both : goal.returns-then-not-both
+pub part_three_length-requires : goal.part_three_length-requires
+part_three_length-requires c = few (goal.at.part_three_length-requires c).Else-not-in_limits
+
+pub right_shape-requires : goal.right_shape-requires
+right_shape-requires c = (few (goal.at.right_shape-requires c).Else-not-in_limits).compared
+
+pub returns-then-not-dice_due : goal.returns-then-not-dice_due
 unfolding part_three_refusal
-returns-then-not-both c = undue _ _ _ _ _ (limits (goal.at.returns-then-not-both c).Else-not-in_limits) (told_false (lengths (goal.at.returns-then-not-both c).After-both) c.if-not-both.true)
+returns-then-not-dice_due c =
+    let at = (goal.at.returns-then-not-dice_due c).Else-not-in_limits in
+    let here : c.s.inside.parameters ≡ c.args.s.now.parameters = same at in
+    undue _ _ _ _ _ (limits at)
+    (elim c.then-not-dice_due.branch [
+      | then-not-dice_due-via-then-not-dice_due w ↦ sym (and_stop _ _ (not_equal w.if-not-dice_due.true))
+      | then-not-dice_due-via-else-not-dice_due+then-sides-p w ↦ sym (and_go _ _ (is_equal w.if-not-dice_due.false) (and_stop _ _ (not_equal (omega (arith, w.if-sides-p.true, ap (λ (p : Parameters). p.ballots) here)))))
+      | then-not-dice_due-via-else-not-dice_due+else-sides-p+then-out_len-part_three_length w ↦ sym (and_go _ _ (is_equal w.if-not-dice_due.false) (and_go _ _ (is_equal (omega (arith, w.if-sides-p.false, ap (λ (p : Parameters). p.ballots) here))) (sym (not_equal (omega (arith, w.if-out_len-part_three_length.true, w.part_three_length.ensures, ap part_three_length here))))))
+    ])
 
 pub returns : goal.returns
 unfolding part_three_refusal
 returns c =
-    due _ _ _ _ _ (limits (goal.at.returns c).Else-not-in_limits) (told_true (lengths (goal.at.returns c).After-both) c.if-not-both.false) (c.fair_dice-fair.ensures ∙ fair_whole _ (dice_long (goal.at.returns c).Else-not-both))
-    c.right_shape-shape.ensures (c.binary_sides-binary.ensures ∙ binary_is _ _ (sides_long (goal.at.returns c).Else-not-both)) c.refuse.ensures
+    let at = (goal.at.returns c).Else-not-in_limits in
+    let here : c.s.inside.parameters ≡ c.args.s.now.parameters = same at in
+    due _ _ _ _ _ (limits at) ((and_iff _ _).1 (is_equal c.if-not-dice_due.false, (and_iff _ _).1 (is_equal (omega (arith, c.if-sides-p.false, ap (λ (p : Parameters). p.ballots) here)), is_equal (omega (arith, c.if-out_len-part_three_length.false, c.part_three_length.ensures, ap part_three_length here)))))
+    (c.fair_dice.ensures ∙ fair_whole _ c.if-not-dice_due.false)
+    (c.right_shape.ensures ∙ ap (λ (p : Parameters). right_shape p.compared c.args.mask) here) (c.binary_sides.ensures ∙ binary_is _ _ (omega (arith, ap (λ (p : Parameters). p.ballots) here))) c.refuse.ensures

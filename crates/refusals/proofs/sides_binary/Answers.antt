@@ -1,22 +1,12 @@
--- `refusals::sides_binary` meets its contract, by the switch.
-use mathlib.Core.Path.{◌≡◌, ◌∙◌}
-use mathlib.Core.Bool.{Bool, true, false}
-use mathlib.Core.List.{List}
-use Prim.Native.Nat.{ℕ}
-use Rattle.protocol.specs.Election.{choice_of}
-use Rattle.refusals.specs.Contents.{binary, binary_where}
+-- `refusals::sides_binary` meets its contract, in either case.
+use mathlib.Core.Path.{refl}
+use Rattle.refusals.specs.Contents.{binary_where}
 use Rattle.refusals.proofs.sides_binary.Goals as goal
 
-off : (b : Bool) (sides : List ℕ) → b ≡ false → true ≡ binary_where (choice_of b sides)
-unfolding choice_of binary_where
-off b sides e = rw e
+pub returns-in-Some : goal.returns-in-Some
+unfolding binary_where
+returns-in-Some c = rw c.in-Some.is (c.binary_sides.ensures)
 
-on : (b : Bool) (sides : List ℕ) → b ≡ true → binary sides ≡ binary_where (choice_of b sides)
-unfolding choice_of binary_where
-on b sides e = rw e
-
-pub returns-then-not-sides_given : goal.returns-then-not-sides_given
-returns-then-not-sides_given c = off _ _ (c.if-not-sides_given.true)
-
-pub returns : goal.returns
-returns c = c.binary_sides.ensures ∙ on _ _ (c.if-not-sides_given.false)
+pub returns-in-None : goal.returns-in-None
+unfolding binary_where
+returns-in-None c = rw c.in-None.is refl

@@ -5,14 +5,16 @@ use Rattle.laws.specs.Tests.{is_equal, not_equal}
 use Rattle.laws.specs.Faults.{rule_go, rule_stop}
 use Rattle.protocol.specs.Rules.{entry_rules}
 use Rattle.rules.proofs.entry_rules.Goals as goal
+use Rattle.rules.proofs.entry_rules.Goals.{then-read1-l-via-then-read1-l, then-read1-l-via-else-read1-l+then-read2-i}
 
 pub returns-then-read1-l : goal.returns-then-read1-l
 unfolding entry_rules
-returns-then-read1-l c = rw (← c.requires.0) (rule_stop 4 _ _ (not_equal (λ e. omega arith)))
-
-pub returns-then-read2-i : goal.returns-then-read2-i
-unfolding entry_rules
-returns-then-read2-i c = rw (← c.requires.0) (rule_go 4 _ _ (is_equal (omega arith)) (rule_stop 4 _ _ (not_equal (λ e. omega arith))))
+returns-then-read1-l c =
+    rw (← c.requires.0)
+    (elim c.then-read1-l.branch [
+      | then-read1-l-via-then-read1-l w ↦ rule_stop 4 _ _ (not_equal (λ e. omega arith))
+      | then-read1-l-via-else-read1-l+then-read2-i w ↦ rule_go 4 _ _ (is_equal (omega arith)) (rule_stop 4 _ _ (not_equal (λ e. omega arith)))
+    ])
 
 pub returns : goal.returns
 unfolding entry_rules

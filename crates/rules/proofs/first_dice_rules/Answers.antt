@@ -1,6 +1,7 @@
 -- `rules::first_dice_rules` meets its contract: one test after the other.
 use mathlib.Core.Path.{◌≡◌, refl, sym, ap, ◌∙◌}
 use Prim.Native.Nat.{ℕ}
+use Rattle.std.specs.Option.{is_some}
 use native.Mathlib.Omega.{arith}
 use lib.ListN.{take}
 use Rattle.laws.specs.Tests.{equal, ◌implies◌, is_equal, implies_iff, equal_iff, never, refuted}
@@ -9,6 +10,7 @@ use Rattle.protocol.specs.Layout.{at_first_dice}
 use Rattle.protocol.specs.Record.{first_dice_of, mask_of}
 use Rattle.protocol.specs.Drawing.{challenge, drawn_mask}
 use Rattle.protocol.specs.Rules.{fair_dice, right_shape, first_dice_rules}
+use Rattle.rules.specs.Known.{lent}
 use Rattle.rules.proofs.first_dice_rules.Goals as goal
 use Rattle.rules.proofs.first_dice_rules.Goals.{After-drawn_mask, After-fair_dice, After-read4-mask, After-right_shape, Else-not-right_shape}
 
@@ -35,7 +37,7 @@ returns-then-not-right_shape c = rule_go 6 _ _ (sym (fair_read (goal.at.returns-
 shaped : (c : Else-not-right_shape) {k : ℕ} →
     (let p = c.args.p in
     let r = c.args.bytes.now in
-    k ≡ rule 8 (c.args.drawn implies equal (mask_of p r) (drawn_mask p.compared (challenge (first_dice_of p r) (take (at_first_dice p) r)))) kept → k ≡ first_dice_rules p r c.args.drawn)
+    k ≡ rule 8 (is_some c.args.text implies equal (mask_of p r) (drawn_mask p.compared (challenge (first_dice_of p r) (take (at_first_dice p) r)))) kept → k ≡ first_dice_rules p r (is_some c.args.text))
 unfolding first_dice_rules
 shaped c h = rule_go 6 _ _ (sym (fair_read (goal.at.Else-not-right_shape c).After-fair_dice) ∙ c.if-not-fair_dice.false) (rule_go 7 _ _ (sym (shape_read (goal.at.Else-not-right_shape c).After-right_shape) ∙ c.if-not-right_shape.false) h)
 
@@ -44,13 +46,23 @@ drawn_read : (c : After-drawn_mask) →
     let r = c.args.bytes.now in
     c.drawn_mask.result ≡ drawn_mask p.compared (challenge (first_dice_of p r) (take (at_first_dice p) r)))
 drawn_read c =
-    c.drawn_mask.ensures.0 ∙ ap (drawn_mask c.args.p.compared) (c.requires.known.text_is c.if-drawn.true (omega (arith, c.requires.here, c.requires.whole)))
+    let text = sym (ap lent c.in-Some.is) ∙ c.requires.known.text_is (ap is_some c.in-Some.is) (omega (arith, c.requires.here, c.requires.whole)) in
+    c.drawn_mask.ensures.0 ∙ ap (drawn_mask c.args.p.compared) text
 
 pub returns-then-drawn_mask-mask : goal.returns-then-drawn_mask-mask
-returns-then-drawn_mask-mask c = shaped (goal.at.returns-then-drawn_mask-mask c).Else-not-right_shape (rule_stop 8 _ _ (refuted _ (λ e. omega (arith, drawn_read (goal.at.returns-then-drawn_mask-mask c).After-drawn_mask, mask_read (goal.at.returns-then-drawn_mask-mask c).After-read4-mask, (equal_iff _ _).0 ((implies_iff _ _).0 e c.if-drawn.true)))))
+returns-then-drawn_mask-mask c =
+    let drawn = drawn_read (goal.at.returns-then-drawn_mask-mask c).After-drawn_mask in
+    let mask = mask_read (goal.at.returns-then-drawn_mask-mask c).After-read4-mask in
+    shaped (goal.at.returns-then-drawn_mask-mask c).Else-not-right_shape
+    (rule_stop 8 _ _ (refuted _ (λ e. omega (arith, (equal_iff _ _).0 ((implies_iff _ _).0 e (ap is_some c.in-Some.is))))))
 
 pub returns-else-drawn_mask-mask : goal.returns-else-drawn_mask-mask
-returns-else-drawn_mask-mask c = shaped (goal.at.returns-else-drawn_mask-mask c).Else-not-right_shape (rule_go 8 _ _ ((implies_iff _ _).1 (λ d. is_equal (omega (arith, drawn_read (goal.at.returns-else-drawn_mask-mask c).After-drawn_mask, mask_read (goal.at.returns-else-drawn_mask-mask c).After-read4-mask)))) refl)
+returns-else-drawn_mask-mask c =
+    let drawn = drawn_read (goal.at.returns-else-drawn_mask-mask c).After-drawn_mask in
+    let mask = mask_read (goal.at.returns-else-drawn_mask-mask c).After-read4-mask in
+    shaped (goal.at.returns-else-drawn_mask-mask c).Else-not-right_shape (rule_go 8 _ _ ((implies_iff _ _).1 (λ d. is_equal (omega arith))) refl)
 
-pub returns-else-drawn : goal.returns-else-drawn
-returns-else-drawn c = shaped (goal.at.returns-else-drawn c).Else-not-right_shape (rule_go 8 _ _ ((implies_iff _ _).1 (λ d. absurd (never d c.if-drawn.false))) refl)
+pub returns-in_default : goal.returns-in_default
+returns-in_default c =
+    shaped (goal.at.returns-in_default c).Else-not-right_shape
+    (rule_go 8 _ _ ((implies_iff _ _).1 (λ d. absurd (never d (ap is_some c.in_default.is)))) refl)

@@ -12,15 +12,16 @@ use Rattle.protocol.specs.Terms.{most_ballots}
 use Rattle.protocol.specs.Record.{position_of, shift_of}
 use Rattle.protocol.specs.Rules.{link_rules}
 use Rattle.rules.proofs.link_rules.Goals as goal
-use Rattle.rules.proofs.link_rules.Goals.{After-read2-position, After-read4, Else-marks-position, Else-read2-j}
+use Rattle.rules.proofs.link_rules.Goals.{After-read2-position, After-read4, Else-marks-position, Else-read2-j, then-read1-l-via-then-read1-l, then-read1-l-via-else-read1-l+then-read2-j, then-p-position-via-then-p-position, then-p-position-via-else-p-position+then-marks-position}
 
 pub returns-then-read1-l : goal.returns-then-read1-l
 unfolding link_rules
-returns-then-read1-l c = rw (← c.requires.here) (rule_stop 4 _ _ (not_equal (λ e. omega arith)))
-
-pub returns-then-read2-j : goal.returns-then-read2-j
-unfolding link_rules
-returns-then-read2-j c = rw (← c.requires.here) (rule_go 4 _ _ (is_equal (omega arith)) (rule_stop 4 _ _ (not_equal (λ e. omega arith))))
+returns-then-read1-l c =
+    rw (← c.requires.here)
+    (elim c.then-read1-l.branch [
+      | then-read1-l-via-then-read1-l w ↦ rule_stop 4 _ _ (not_equal (λ e. omega arith))
+      | then-read1-l-via-else-read1-l+then-read2-j w ↦ rule_go 4 _ _ (is_equal (omega arith)) (rule_stop 4 _ _ (not_equal (λ e. omega arith)))
+    ])
 
 -- list and ballot are the due ones: the other rules are left
 named : (c : Else-read2-j) {k : ℕ} →
@@ -36,17 +37,22 @@ position_read : (c : After-read2-position) → c.read2-position.result ≡ posit
 unfolding position_of
 position_read c = rw (← c.requires.here) c.read2-position.ensures.0
 
-pub returns-then-p-position : goal.returns-then-p-position
-returns-then-p-position c = named (goal.at.returns-then-p-position c).Else-read2-j (rule_stop 9 _ _ (not_below (omega (arith, position_read (goal.at.returns-then-p-position c).After-read2-position))))
-
 -- what the mark of the position tells
 mark : {f : ℕ → ℕ} {j k : ℕ} {marks : List Bool} → Marks most_ballots f j marks → k ≡ f j → k < most_ballots →
     every (λ i. differ (f i) (f j)) j ≡ not (get_or marks k false)
 unfolding unused
 mark {k = k} m e h = rw (← e) (sym (m.clear k h))
 
-pub returns-then-marks-position : goal.returns-then-marks-position
-returns-then-marks-position c = named (goal.at.returns-then-marks-position c).Else-read2-j (rule_go 9 _ _ (is_below (omega (arith, position_read (goal.at.returns-then-marks-position c).After-read2-position))) (rule_stop 9 _ _ (mark c.requires.known.marked (position_read (goal.at.returns-then-marks-position c).After-read2-position) (omega arith) ∙ ap not c.if-marks-position.true)))
+pub returns-then-p-position : goal.returns-then-p-position
+returns-then-p-position c =
+    let read = position_read (goal.at.returns-then-p-position c).After-read2-position in
+    named (goal.at.returns-then-p-position c).Else-read2-j
+    (elim c.then-p-position.branch [
+      | then-p-position-via-then-p-position w ↦ rule_stop 9 _ _ (not_below (omega arith))
+      | then-p-position-via-else-p-position+then-marks-position w ↦
+          rule_go 9 _ _ (is_below (omega arith))
+          (rule_stop 9 _ _ (mark c.requires.known.marked read (omega arith) ∙ ap not w.if-marks-position.true))
+    ])
 
 -- the position is free: rule 10 is left
 free : (c : Else-marks-position) {k : ℕ} →

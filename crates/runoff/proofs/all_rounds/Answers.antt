@@ -4,16 +4,15 @@ use Rattle.runoff.proofs.Onward.{started, one_on, over_on, end_on}
 use Rattle.runoff.proofs.all_rounds.Goals as goal
 
 pub loop-n-init : goal.loop-n-init
-loop-n-init c = let (a, b) = started _ _ c.start-s.ensures in (omega arith, a, b)
+loop-n-init c = started _ _ c.start-s.ensures
 
 pub returns-then-s : goal.returns-then-s
-returns-then-s c = over_on _ _ _ _ c.if-s.true c.loop-n.invariant.2
+returns-then-s c = over_on _ _ _ _ c.if-s.true c.loop-n.invariant.1
 
 pub loop-n-preserved : goal.loop-n-preserved
 loop-n-preserved c =
-    let (within, counted, goes) = c.loop-n.invariant in
-    let (a, b) = one_on _ _ _ _ (omega arith) c.if-s.false counted goes c.next-after.ensures in
-    (omega arith, a, b)
+    let (counted, goes) = c.loop-n.invariant in
+    one_on _ _ _ _ (omega arith) c.if-s.false counted goes c.next-s.ensures
 
 pub returns : goal.returns
-returns c = end_on _ _ _ _ (omega arith) c.loop-n.invariant.2
+returns c = end_on _ _ _ _ (omega arith) c.loop-n.invariant.1

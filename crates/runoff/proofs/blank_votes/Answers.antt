@@ -1,17 +1,15 @@
--- `runoff::blank_votes` meets its contract: what is counted, with what is left, is the whole.
-use mathlib.Core.Path.{ap}
-use Prim.Native.Nat.{ℕ, ◌+◌}
-use native.Mathlib.Omega.{arith}
+-- `runoff::blank_votes` meets its contract.
+use mathlib.Core.Path.{◌≡◌, ◌∙◌}
+use Prim.Native.Nat.{ℕ}
+use lib.Dec.{eqb}
+use borrow.Author.Rules.{rules}
+use Rattle.std.specs.List.{count_by}
 use Rattle.laws.specs.Tests.{equal}
-use Rattle.laws.specs.Counting.{one_counted, all_counted}
 use Rattle.runoff.specs.Ranking.{blank}
 use Rattle.runoff.specs.Rounds.{blank_votes}
+use Rattle.runoff.proofs.Tallying.{count_is}
 use Rattle.runoff.proofs.blank_votes.Goals as goal
 
-pub loop-i-preserved : goal.loop-i-preserved
-unfolding blank equal
-loop-i-preserved c = one_counted _ c.loop-i.invariant (omega arith) (ap (λ (n : ℕ). c.loop-i.blank + n) c.one_if-blank.ensures.0)
-
 pub returns : goal.returns
-unfolding blank_votes
-returns c = all_counted c.loop-i.invariant (omega arith)
+unfolding blank_votes blank equal
+returns c = let e : c.count.result ≡ count_by (λ (v : ℕ). eqb v 0) c.args.votes.now = search rules in e ∙ count_is _ _

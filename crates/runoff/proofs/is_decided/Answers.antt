@@ -1,11 +1,11 @@
 -- `runoff::is_decided` meets its contract.
-use mathlib.Core.Path.{refl}
-use Rattle.laws.specs.Tests.{differ, is_equal, not_equal, or_go, or_stop}
+use mathlib.Core.Path.{◌∙◌}
+use borrow.Author.Tests.{eq-eqb}
+use Rattle.laws.specs.Tests.{is_equal, not_equal, or_go, or_stop}
 use Rattle.runoff.proofs.is_decided.Goals as goal
 
-pub returns-then-all-eq0 : goal.returns-then-all-eq0
-returns-then-all-eq0 c = or_stop _ _ (is_equal c.if-all-eq0.true)
+pub returns-then-nothing_counts : goal.returns-then-nothing_counts
+returns-then-nothing_counts c = eq-eqb _ _ c.if-nothing_counts.true ∙ or_stop _ _ (is_equal c.if-nothing_counts.true)
 
-pub returns : goal.returns
-unfolding differ
-returns c = or_go _ _ (not_equal c.if-all-eq0.false) refl
+pub returns-else-nothing_counts : goal.returns-else-nothing_counts
+returns-else-nothing_counts c = or_go _ _ (not_equal c.if-nothing_counts.false) c.is_some.ensures

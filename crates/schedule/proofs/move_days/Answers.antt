@@ -37,7 +37,7 @@ returns-then-holiday-s-4 c =
     let after = c.weekday_from-after.ensures.0 in
     rw (not_equal c.if-holiday-s.false, not_equal c.if-holiday-s-2.false, not_equal c.if-holiday-s-3.false, is_equal c.if-holiday-s-4.true, after)
 
-pub returns : goal.returns
+pub returns-else-holiday-s-4 : goal.returns-else-holiday-s-4
 unfolding moved
-returns c =
+returns-else-holiday-s-4 c =
     rw (not_equal c.if-holiday-s.false, not_equal c.if-holiday-s-2.false, not_equal c.if-holiday-s-3.false, not_equal c.if-holiday-s-4.false)

@@ -10,8 +10,8 @@ use Rattle.schedule.proofs.plan_on.Goals as goal
 pub from_next-s-requires : goal.from_next-s-requires
 from_next-s-requires c = omega (arith, c.weekday_from.ensures.1)
 
-pub loop-i-init : goal.loop-i-init
-loop-i-init c = rw (c.from_next-s.ensures, c.weekday_from.ensures.0) (none_passed _ _)
+pub loop-number-init : goal.loop-number-init
+loop-number-init c = rw (c.from_next-s.ensures, c.weekday_from.ensures.0) (none_passed _ _)
 
 pub returns-then-not-exists : goal.returns-then-not-exists
 returns-then-not-exists c =
@@ -25,16 +25,16 @@ pub returns-then-holiday-least : goal.returns-then-holiday-least
 unfolding holiday
 returns-then-holiday-least c =
     let is = c.date_in-date.ensures in
-    refused_late _ _ c.loop-i.invariant (omega arith) (sym (ap exists is) ∙ told_true c.exists.ensures c.if-not-exists.false)
+    refused_late _ _ c.loop-number.invariant (omega arith) (sym (ap exists is) ∙ told_true c.exists.ensures c.if-not-exists.false)
     (c.day_number-holiday.ensures.0 ∙ ap day_number is) c.if-holiday-least.true
 
-pub loop-i-preserved : goal.loop-i-preserved
+pub loop-number-preserved : goal.loop-number-preserved
 unfolding holiday
-loop-i-preserved c =
+loop-number-preserved c =
     let is = c.date_in-date.ensures in
-    rw c.move_days-t.ensures
-    (one_passed _ _ c.loop-i.invariant (omega arith) (sym (ap exists is) ∙ told_true c.exists.ensures c.if-not-exists.false)
+    rw c.move_days-s.ensures
+    (one_passed _ _ c.loop-number.invariant (omega arith) (sym (ap exists is) ∙ told_true c.exists.ensures c.if-not-exists.false)
     (c.day_number-holiday.ensures.0 ∙ ap day_number is) (omega arith))
 
 pub returns : goal.returns
-returns c = all_passed _ _ c.loop-i.invariant (omega arith)
+returns c = all_passed _ _ c.loop-number.invariant (omega arith)

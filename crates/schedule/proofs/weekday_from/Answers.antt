@@ -9,6 +9,6 @@ pub returns-then-w-lt5 : goal.returns-then-w-lt5
 unfolding weekday_from weekday
 returns-then-w-lt5 c = (rw (is_below c.if-w-lt5.true), omega arith)
 
-pub returns : goal.returns
+pub returns-else-w-lt5 : goal.returns-else-w-lt5
 unfolding weekday_from weekday
-returns c = (rw (not_below c.if-w-lt5.false), omega arith)
+returns-else-w-lt5 c = (rw (not_below c.if-w-lt5.false), omega arith)

@@ -10,15 +10,15 @@ returns-then-is_inside c = rw (sym c.is_inside.ensures ∙ c.if-is_inside.true)
 pub returns-then-is_inside-2 : goal.returns-then-is_inside-2
 unfolding window_of
 returns-then-is_inside-2 c =
-    rw (sym c.is_inside.ensures ∙ c.if-is_inside.false, sym c.is_inside-2.ensures ∙ c.if-is_inside-2.true)
+    rw (sym c.is_inside.ensures ∙ c.if-is_inside.false, sym c.is_inside-else-is_inside.ensures ∙ c.if-is_inside-2.true)
 
 pub returns-then-is_inside-3 : goal.returns-then-is_inside-3
 unfolding window_of
 returns-then-is_inside-3 c =
     rw (
       sym c.is_inside.ensures ∙ c.if-is_inside.false,
-      sym c.is_inside-2.ensures ∙ c.if-is_inside-2.false,
-      sym c.is_inside-3.ensures ∙ c.if-is_inside-3.true,
+      sym c.is_inside-else-is_inside.ensures ∙ c.if-is_inside-2.false,
+      sym c.is_inside-else-is_inside-2.ensures ∙ c.if-is_inside-3.true,
     )
 
 pub returns-then-is_inside-4 : goal.returns-then-is_inside-4
@@ -26,17 +26,17 @@ unfolding window_of
 returns-then-is_inside-4 c =
     rw (
       sym c.is_inside.ensures ∙ c.if-is_inside.false,
-      sym c.is_inside-2.ensures ∙ c.if-is_inside-2.false,
-      sym c.is_inside-3.ensures ∙ c.if-is_inside-3.false,
-      sym c.is_inside-4.ensures ∙ c.if-is_inside-4.true,
+      sym c.is_inside-else-is_inside.ensures ∙ c.if-is_inside-2.false,
+      sym c.is_inside-else-is_inside-2.ensures ∙ c.if-is_inside-3.false,
+      sym c.is_inside-else-is_inside-3.ensures ∙ c.if-is_inside-4.true,
     )
 
-pub returns : goal.returns
+pub returns-else-is_inside-4 : goal.returns-else-is_inside-4
 unfolding window_of
-returns c =
+returns-else-is_inside-4 c =
     rw (
       sym c.is_inside.ensures ∙ c.if-is_inside.false,
-      sym c.is_inside-2.ensures ∙ c.if-is_inside-2.false,
-      sym c.is_inside-3.ensures ∙ c.if-is_inside-3.false,
-      sym c.is_inside-4.ensures ∙ c.if-is_inside-4.false,
+      sym c.is_inside-else-is_inside.ensures ∙ c.if-is_inside-2.false,
+      sym c.is_inside-else-is_inside-2.ensures ∙ c.if-is_inside-3.false,
+      sym c.is_inside-else-is_inside-3.ensures ∙ c.if-is_inside-4.false,
     )

@@ -1,7 +1,6 @@
 -- `tablet::put_command` meets its contract: the ballot of the split is the command.
 use mathlib.Core.Path.{sym, ◌∙◌}
 use native.Mathlib.Omega.{arith}
-use borrow.Author.Rules.{rules}
 use Rattle.laws.specs.Writing.{whole}
 use Rattle.tablet.proofs.Ballot.{three_below, ballot_length, ballot_is}
 use Rattle.tablet.proofs.put_command.Goals as goal
@@ -18,5 +17,5 @@ returns c =
     let s = c.args in
     whole c.put_ballot.ensures.wrote
     (ballot_length _ _ _ _ _ ∙ sym c.requires.command_long)
-    ∙ ballot_is s.form s.modulus s.id s.vote s.x s.y c.less_two-z.result s.u1 s.u2 s.u3 c.split-six.result s.keys.now
+    ∙ ballot_is s.form s.modulus s.id s.cut.vote s.cut.x s.cut.y c.less_two-z.result s.cut.u1 s.cut.u2 s.cut.u3 c.split-six.result s.keys.now
     c.less_two-z.ensures.0 c.split-six.ensures

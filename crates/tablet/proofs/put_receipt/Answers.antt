@@ -2,7 +2,6 @@
 use mathlib.Core.Path.{ap, ◌∙◌}
 use native.Mathlib.Omega.{arith}
 use lib.ListN.{length, length-append}
-use borrow.Author.Rules.{rules}
 use Rattle.laws.specs.Bytes.{bytes, length_bytes}
 use Rattle.laws.specs.Writing.{go_on, go_same, whole}
 use Rattle.sha3.specs.Sha3.{sha3_224}

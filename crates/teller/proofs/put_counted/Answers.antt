@@ -1,11 +1,11 @@
 -- `teller::put_counted` meets its contract: a refused number of candidates, or the rounds of an accepted record, which has at most 4,096 ballots.
-use mathlib.Core.Path.{◌≡◌}
+use mathlib.Core.Path.{◌≡◌, ◌∙◌}
 use mathlib.Core.Bool.{true}
 use mathlib.Core.List.{List}
 use Prim.Native.Nat.{ℕ, ◌≤◌}
 use native.Mathlib.Omega.{arith}
 use lib.ListN.{length-take}
-use Rattle.laws.specs.declared.Found.TheVariants.{Nothing}
+use Rattle.laws.specs.Faults.{Nothing}
 use Rattle.laws.specs.Writing.{go_same}
 use Rattle.protocol.specs.declared.Parameters.{Parameters}
 use Rattle.protocol.specs.Terms.{most_ballots}
@@ -16,8 +16,8 @@ use Rattle.runoff.proofs.Running.{fitting}
 use Rattle.teller.proofs.Paged.{counted_refused, counted_read}
 use Rattle.teller.proofs.put_counted.Goals as goal
 
-pub returns-then-k-ne0 : goal.returns-then-k-ne0
-returns-then-k-ne0 c = go_same c.put_refused.ensures (counted_refused _ _ _ c.refuse-k.ensures c.if-k-ne0.true)
+pub returns-in-Err : goal.returns-in-Err
+returns-in-Err c = go_same c.put_refused.ensures (counted_refused _ _ _ (c.number.ensures.0 ∙ c.in-Err.ensures) (omega (arith, c.number.ensures)))
 
 pub parameters-p-requires : goal.parameters-p-requires
 parameters-p-requires c = accepted_whole _ _ c.requires.0
@@ -35,9 +35,9 @@ slice_bounds-put_votes-end c = simp length-take (omega (arith, few _ c.requires.
 pub put_votes-requires : goal.put_votes-requires
 put_votes-requires c = record {
   votes = votes_ready _ _ c.requires.0 c.parameters-p.ensures (simp length-take (omega (arith, few _ c.requires.0 c.parameters-p.ensures)));
-  few = (fitting _ _ c.refuse-k.ensures (omega arith)).0;
+  few = (fitting _ _ c.in-Ok.ensures).0;
   room = c.requires.1;
 }
 
-pub returns : goal.returns
-returns c = go_same c.put_votes.ensures (counted_read _ _ c.refuse-k.ensures (omega arith) c.parameters-p.ensures)
+pub returns-in-Ok : goal.returns-in-Ok
+returns-in-Ok c = go_same c.put_votes.ensures (counted_read _ _ c.in-Ok.ensures c.parameters-p.ensures)

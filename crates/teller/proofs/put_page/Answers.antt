@@ -9,12 +9,12 @@ returns-then-bytes-gt-LONGEST_RECORD c =
     let written = too_long c.args.candidates _ c.if-bytes-gt-LONGEST_RECORD.true c.copy.ensures in
     record { output = written.0; answer = written.1 }
 
-pub returns-in-Nothing : goal.returns-in-Nothing
-returns-in-Nothing c =
-    let written = counted c.args.candidates c.args.bytes.now (omega arith) (sym c.in-Nothing.ensures) c.put_counted.ensures in
+pub returns-in-Ok : goal.returns-in-Ok
+returns-in-Ok c =
+    let written = counted c.args.candidates c.args.bytes.now (omega arith) (sym c.in-Ok.ensures) c.put_counted.ensures in
     record { output = written.0; answer = written.1 }
 
-pub returns-in-Fault : goal.returns-in-Fault
-returns-in-Fault c =
-    let written = refused c.args.candidates c.args.bytes.now _ (omega arith) (sym c.in-Fault.ensures) c.put_refused.ensures in
+pub returns-in-Err : goal.returns-in-Err
+returns-in-Err c =
+    let written = refused c.args.candidates c.args.bytes.now _ (omega arith) (sym c.in-Err.ensures) (rw c.number.ensures.0 at c.put_refused.ensures) in
     record { output = written.0; answer = written.1 }

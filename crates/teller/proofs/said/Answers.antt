@@ -1,23 +1,34 @@
 -- `teller::said` meets its contract: what is left of the argument, behind the number read so far, says what the whole says.
+use mathlib.Core.Path.{◌≡◌}
+use mathlib.Core.Logic.{◌≢◌, ◌⊎◌, inl, inr}
+use Prim.Native.Nat.{◌+◌, ◌-◌, ◌*◌, ◌≤◌, ◌<◌, min}
 use native.Mathlib.Omega.{arith}
+use lib.ListN.{length, get_or}
+use Rattle.std.proofs.lemmas.Grind.{common_steps}
 use Rattle.teller.proofs.Reading.{empty_says, none_said, low_says, high_says, one_said, all_said}
 use Rattle.teller.proofs.said.Goals as goal
 
-pub returns-then-argument-eq0 : goal.returns-then-argument-eq0
-returns-then-argument-eq0 c = empty_says _ (omega arith)
+pub returns-then-is_empty : goal.returns-then-is_empty
+returns-then-is_empty c = let e : length c.args.argument.now ≡ 0 = grind (arith, common_steps) in empty_says _ e
 
-pub loop-i-init : goal.loop-i-init
-loop-i-init c = none_said _ (omega arith)
+pub loop-character-init : goal.loop-character-init
+loop-character-init c = let e : length c.args.argument.now ≢ 0 = grind (arith, common_steps) in none_said _ e
 
-pub returns-then-character-lt48 : goal.returns-then-character-lt48
-returns-then-character-lt48 c = low_says _ c.loop-i.invariant (omega arith) c.if-character-lt48.true
+pub returns-then-not-is_ascii_digit : goal.returns-then-not-is_ascii_digit
+returns-then-not-is_ascii_digit c =
+    let character = get_or c.args.argument.now c.loop-character.character-index 0 in
+    let h : (character < 48) ⊎ (57 < character) = grind (arith, common_steps) in
+    elim h [
+      | inl low ↦ low_says _ c.loop-character.invariant c.loop-character-test.true low
+      | inr high ↦ high_says _ c.loop-character.invariant c.loop-character-test.true high
+    ]
 
-pub returns-then-character-gt57 : goal.returns-then-character-gt57
-returns-then-character-gt57 c = high_says _ c.loop-i.invariant (omega arith) c.if-character-gt57.true
-
-pub loop-i-preserved : goal.loop-i-preserved
-loop-i-preserved c =
-    one_said _ c.loop-i.invariant (omega arith) c.if-character-lt48.false c.if-character-gt57.false _ c.at_most_ten-number.ensures
+pub loop-character-preserved : goal.loop-character-preserved
+loop-character-preserved c =
+    let character = get_or c.args.argument.now c.loop-character.character-index 0 in
+    let digit : (48 ≤ character) × (character ≤ 57) = grind (arith, common_steps) in
+    let e : c.min-number.result ≡ min 10 (c.loop-character.number * 10 + (character - 48)) = grind (arith, common_steps) in
+    one_said _ c.loop-character.invariant c.loop-character-test.true digit.0 digit.1 _ e
 
 pub returns : goal.returns
-returns c = all_said _ c.loop-i.invariant (omega arith)
+returns c = all_said _ c.loop-character.invariant (omega arith)

@@ -1,10 +1,7 @@
--- `verifier::judge` meets its contract: the verdict is the number of the first fault.
-use Rattle.laws.specs.Faults.{passed_as}
+-- `verifier::judge` meets its contract: the verdict is the rule of the first fault.
+use Rattle.std.proofs.Common.{arith}
 use Rattle.verifier.proofs.Verdicts.{accepted_is, refused_is}
 use Rattle.verifier.proofs.judge.Goals as goal
 
-pub returns-in-Nothing : goal.returns-in-Nothing
-returns-in-Nothing c = accepted_is _ _ (passed_as c.first_fault.ensures c.in-Nothing.is)
-
-pub returns-in-Fault : goal.returns-in-Fault
-returns-in-Fault c = refused_is _ _ c.in-Fault.k (passed_as c.first_fault.ensures c.in-Fault.is)
+pub returns : goal.returns
+returns c = let s = c.args in grind (arith, accepted_is s.drawn s.bytes.now, refused_is s.drawn s.bytes.now)

@@ -4,7 +4,6 @@ use Prim.Native.Nat.{ℕ, ◌+◌}
 use native.Mathlib.Omega.{arith}
 use lib.ListN.{get_or}
 use Rattle.laws.specs.Bytes.{number}
-use borrow.Author.Rules.{rules}
 use Rattle.wire.proofs.half.Goals as goal
 
 pub returns : goal.returns

@@ -1,6 +1,5 @@
 -- `wire::put1` meets its contract: one store.
 use native.Mathlib.Omega.{arith}
-use borrow.Author.Rules.{rules}
 use Rattle.laws.specs.Bytes.{bytes}
 use Rattle.laws.specs.Writing.{put_set, wrote}
 use Rattle.wire.proofs.put1.Goals as goal

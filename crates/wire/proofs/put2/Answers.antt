@@ -1,5 +1,4 @@
 -- `wire::put2` meets its contract: two bytes, one behind the other.
-use borrow.Author.Rules.{rules}
 use Rattle.wire.proofs.Halves.{put_on, room_on}
 use Rattle.wire.proofs.put2.Goals as goal
 

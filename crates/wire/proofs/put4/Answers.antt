@@ -1,5 +1,4 @@
 -- `wire::put4` meets its contract: two halves, one behind the other.
-use borrow.Author.Rules.{rules}
 use Rattle.wire.proofs.Halves.{put_on, room_on}
 use Rattle.wire.proofs.put4.Goals as goal
 

@@ -1,6 +1,5 @@
 -- `wire::read2` meets its contract: two bytes make the number.
 use native.Mathlib.Omega.{arith}
-use borrow.Author.Rules.{rules}
 use Rattle.wire.proofs.Halves.{read_on}
 use Rattle.wire.proofs.read2.Goals as goal
 

@@ -1,6 +1,5 @@
 -- `wire::read4` meets its contract: two halves make the number.
 use native.Mathlib.Omega.{arith}
-use borrow.Author.Rules.{rules}
 use Rattle.wire.proofs.Halves.{read_on}
 use Rattle.wire.proofs.read4.Goals as goal
 

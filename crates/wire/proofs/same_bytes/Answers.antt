@@ -1,31 +1,25 @@
--- `wire::same_bytes` meets its contract. The loop: `equal` says whether the bytes passed are equal.
-use mathlib.Core.Path.{◌≡◌, refl, sym, ap, ◌∙◌}
-use mathlib.Core.Bool.{Bool}
-use mathlib.Core.List.{List}
-use Prim.Native.Nat.{ℕ, ◌-◌, ◌≤◌}
-use native.Mathlib.Omega.{arith}
-use lib.ListN.{length, get_or}
-use Rattle.laws.specs.Tests.{equal, every, every_turn, same, same_iff, same_every, refuted}
-use Rattle.wire.proofs.same_bytes.Invariants.{alike}
+-- `wire::same_bytes` meets its contract: a test of two lists is one of their items.
+use mathlib.Core.Path.{◌≡◌, refl, ◌∙◌}
+use mathlib.Core.Bool.{Bool, true, false}
+use mathlib.Core.List.{List, [], ◌∷◌}
+use Prim.Native.Nat.{ℕ}
+use lib.Dec.{eqb}
+use lib.Pointwise.{pointwise}
+use Rattle.std.specs.Prelude.{◌&&◌}
+use Rattle.laws.specs.Tests.{equal, ◌and◌, same}
 use Rattle.wire.proofs.same_bytes.Goals as goal
 
-pub returns-then-a-b : goal.returns-then-a-b
-returns-then-a-b c =
-    let a = c.args.a.now in
-    let b = c.args.b.now in
-    sym (refuted (same a b) (λ e. omega (arith, ap length ((same_iff a b).0 e))))
+as_and : (x : Bool) {y z : Bool} → y ≡ z → (x && y) ≡ (x and z)
+unfolding ◌and◌
+as_and true e = e
+as_and false e = refl
 
-pub loop-i-init : goal.loop-i-init
-unfolding every
-loop-i-init c = (omega arith, refl)
-
-pub loop-i-preserved : goal.loop-i-preserved
-unfolding equal
-loop-i-preserved c = (omega arith, every_turn _ _ c.loop-i.invariant.1)
+same_is : (a b : List ℕ) → pointwise eqb a b ≡ same a b
+unfolding same equal
+same_is [] [] = refl
+same_is [] (y ∷ ys) = refl
+same_is (x ∷ xs) [] = refl
+same_is (x ∷ xs) (y ∷ ys) = as_and (eqb x y) (same_is xs ys)
 
 pub returns : goal.returns
-returns c =
-    let a = c.args.a.now in
-    let b = c.args.b.now in
-    let e : c.loop-i.i ≡ length a = omega arith in
-    rw e at c.loop-i.invariant.1 ∙ sym (same_every a b (omega arith))
+returns c = c.eq.ensures ∙ same_is _ _

@@ -1,6 +1,4 @@
 -- `announced::put_votes` meets its contract. The loop: the first i votes are written.
-use Prim.Native.Nat.{◌-◌, ◌≤◌}
-use lib.ListN.{length}
 use Rattle.laws.specs.Chunks.{chunks}
 use Rattle.laws.specs.Writing.{Went}
 use Rattle.protocol.specs.Terms.{item}
@@ -8,7 +6,4 @@ use Rattle.protocol.specs.Record.{vote_command}
 use Rattle.disclosure.proofs.announced.put_votes.Given as goal
 
 abbrev pub invariant-loop-i : goal.invariant-loop-i
-invariant-loop-i l = (l.i ≤ length l.votes) × Went l.initial.out l.at (chunks (λ i. vote_command i (item l.votes i)) l.i) l.out l.next
-
-abbrev pub decreases-loop-i : goal.decreases-loop-i
-decreases-loop-i l = length l.votes - l.i
+invariant-loop-i l = Went l.initial.out l.at (chunks (λ i. vote_command i (item l.votes i)) l.i) l.out l.next

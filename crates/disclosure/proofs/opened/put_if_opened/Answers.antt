@@ -14,7 +14,7 @@ returns-then-mask-l-ne0 c =
 
 pub put_full-requires : goal.put_full-requires
 put_full-requires c =
-    (c.requires.0, (c.requires.1.0, opened_one (bit c.args.mask c.args.l) c.args.at (c.args.p.ballots * 220) c.if-mask-l-ne0.false c.requires.1.1))
+    (c.requires.0, (c.requires.1.0, opened_one (bit c.args.mask c.args.l) c.args.at (c.args.s.now.parameters.ballots * 220) c.if-mask-l-ne0.false c.requires.1.1))
 
 pub returns : goal.returns
 returns c =

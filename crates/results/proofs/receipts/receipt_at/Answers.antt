@@ -9,7 +9,7 @@ use Rattle.laws.specs.Chunks.{piece}
 use Rattle.laws.specs.Writing.{part_is}
 use Rattle.sha3.specs.Sha3.{sha3_224}
 use Rattle.sha3.proofs.Digest.{sha3_224_length}
-use Rattle.protocol.specs.Answers.{done, as_printed, otherwise}
+use Rattle.protocol.specs.Answers.{as_printed, otherwise}
 use Rattle.protocol.specs.Layout.{at_ballot}
 use Rattle.protocol.specs.Results.{receipt_at}
 use Rattle.results.proofs.receipts.receipt_at.Goals as goal
@@ -26,12 +26,12 @@ slice_bounds-same_bytes-end-2 c = omega (arith, ap length c.sha3_224.ensures ∙
 tested : (c : After-same_bytes) →
     (let s = c in
     let r = s.args.bytes.now in
-    (x : Bool) → c.same_bytes.result ≡ x → done (pick x as_printed otherwise) ≡ done (receipt_at s.args.p r s.args.printed.now s.args.j))
+    (x : Bool) → c.same_bytes.result ≡ x → pick x as_printed otherwise ≡ receipt_at s.args.p r s.args.printed.now s.args.j)
 unfolding receipt_at
 tested c x e =
     let s = c in
     let at = c.at_ballot-at in
-    ap (λ (b : Bool). done (pick b as_printed otherwise))
+    ap (λ (b : Bool). pick b as_printed otherwise)
     (sym e ∙ c.same_bytes.ensures
     ∙ ap (same _) (c.sha3_224.ensures ∙ ap sha3_224 (part_is s.args.bytes.now at.result 197) ∙ ap (λ (a : ℕ). sha3_224 (piece s.args.bytes.now a 197)) at.ensures.0))
 

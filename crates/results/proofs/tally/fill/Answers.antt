@@ -3,15 +3,10 @@ use mathlib.Core.Path.{sym, ◌∙◌}
 use native.Mathlib.Omega.{arith}
 use Rattle.results.proofs.Tallied.{OneMore, none_tallied, new_tallied, again_tallied, all_tallied}
 use Rattle.results.proofs.tally.fill.Goals as goal
-use Rattle.results.proofs.tally.fill.Goals.{Else-is_fresh}
+use Rattle.results.proofs.tally.fill.Goals.{Else-is_fresh, then-is_fresh, else-is_fresh}
 
 pub loop-i-init : goal.loop-i-init
 loop-i-init c = none_tallied _ _ _
-
-pub loop-i-preserved-then-is_fresh : goal.loop-i-preserved-then-is_fresh
-loop-i-preserved-then-is_fresh c =
-    let at = c in
-    new_tallied _ at.requires at.loop-i.invariant (omega arith) (sym c.is_fresh.ensures ∙ c.if-is_fresh.true)
 
 -- the vote of this turn equals the one before
 one_more : (c : Else-is_fresh) → let at = c in let args = at.args in
@@ -32,14 +27,18 @@ bounds-counts-last c = omega (arith, (one_more (goal.at.bounds-counts-last c).El
 pub overflow_add-counts : goal.overflow_add-counts
 overflow_add-counts c = omega (arith, (one_more (goal.at.overflow_add-counts c).Else-is_fresh).at_most)
 
-pub offset_bounds-counts-last-else-is_fresh : goal.offset_bounds-counts-last-else-is_fresh
-offset_bounds-counts-last-else-is_fresh c = omega (arith, (one_more (goal.at.offset_bounds-counts-last-else-is_fresh c).Else-is_fresh).some)
-
 pub bounds-counts-last-else-is_fresh : goal.bounds-counts-last-else-is_fresh
 bounds-counts-last-else-is_fresh c = omega (arith, (one_more (goal.at.bounds-counts-last-else-is_fresh c).Else-is_fresh).some)
 
 pub loop-i-preserved : goal.loop-i-preserved
-loop-i-preserved c = (one_more (goal.at.loop-i-preserved c).Else-is_fresh).tallied
+loop-i-preserved c =
+    let before = c.loop-i.invariant in
+    elim c.if-is_fresh.branch [
+      | then-is_fresh w ↦
+          rw (w.values-is, w.counts-is, w.pairs-is) (new_tallied _ c.requires before (omega arith) (sym c.is_fresh.ensures ∙ w.if-is_fresh.true))
+      | else-is_fresh w ↦
+          rw (w.values-is, w.counts-is, w.pairs-is) (again_tallied _ c.requires before (omega arith) (sym c.is_fresh.ensures ∙ w.if-is_fresh.false)).tallied
+    ]
 
 pub shape_of-values : goal.shape_of-values
 shape_of-values c = c.loop-i.invariant.in_values.long

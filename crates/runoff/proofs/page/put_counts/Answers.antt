@@ -9,22 +9,22 @@ use Rattle.runoff.proofs.page.put_counts.Invariants.{cell_at}
 use Rattle.runoff.proofs.page.put_counts.Goals as goal
 
 pub loop-i-init : goal.loop-i-init
-loop-i-init c = (omega arith, start _ _ (omega (arith, c.requires.1)))
+loop-i-init c = start _ _ (omega (arith, c.requires.1))
 
 pub put_count_cell-next-requires : goal.put_count_cell-next-requires
 unfolding count_cells
 put_count_cell-next-requires c =
-    let went = c.loop-i.invariant.1 in
+    let went = c.loop-i.invariant in
     omega (arith, c.requires.0.few, c.requires.1, went.to, went.wrote.long, count_cells_length c.loop-i.i c.args.s)
 
 pub loop-i-preserved : goal.loop-i-preserved
 loop-i-preserved c =
     let s = c.args.s in
-    (omega arith, go_turn (cell_at s.rounds s.left s.counts) c.loop-i.i c.loop-i.invariant.1 c.put_count_cell-next.ensures)
+    go_turn (cell_at s.rounds s.left s.counts) c.loop-i.i c.loop-i.invariant c.put_count_cell-next.ensures
 
 pub returns : goal.returns
 unfolding count_cells
 returns c =
     let args = c.args in
     let e : c.loop-i.i ≡ args.candidates = omega arith in
-    go_same c.loop-i.invariant.1 (ap (chunks (cell_at args.s.rounds args.s.left args.s.counts)) e)
+    go_same c.loop-i.invariant (ap (chunks (cell_at args.s.rounds args.s.left args.s.counts)) e)

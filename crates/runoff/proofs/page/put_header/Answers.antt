@@ -9,13 +9,13 @@ use Rattle.runoff.proofs.page.put_header.Goals as goal
 
 pub loop-i-init : goal.loop-i-init
 loop-i-init c =
-    (omega arith, start _ _ (omega (arith, c.requires, c.copy-next.ensures.to, c.copy-next.ensures.wrote.long)))
+    start _ _ (omega (arith, c.requires, c.copy-next.ensures.to, c.copy-next.ensures.wrote.long))
 
 -- ---- a turn
 
 pub put_header_cell-next-requires : goal.put_header_cell-next-requires
 put_header_cell-next-requires c =
-    let went = c.loop-i.invariant.1 in (
+    let went = c.loop-i.invariant in (
       omega arith,
       omega (
         arith,
@@ -30,13 +30,13 @@ put_header_cell-next-requires c =
 
 pub loop-i-preserved : goal.loop-i-preserved
 loop-i-preserved c =
-    (omega arith, go_turn header_cell c.loop-i.i c.loop-i.invariant.1 c.put_header_cell-next.ensures)
+    go_turn header_cell c.loop-i.i c.loop-i.invariant c.put_header_cell-next.ensures
 
 -- ---- the end
 
 pub copy-requires : goal.copy-requires
 copy-requires c =
-    let went = c.loop-i.invariant.1 in
+    let went = c.loop-i.invariant in
     omega (
       arith,
       c.requires,
@@ -51,4 +51,4 @@ pub returns : goal.returns
 unfolding header_line
 returns c =
     let e : c.loop-i.i ≡ c.args.candidates = omega arith in
-    go_on (go_on c.copy-next.ensures (go_same c.loop-i.invariant.1 (ap (chunks header_cell) e))) c.copy.ensures
+    go_on (go_on c.copy-next.ensures (go_same c.loop-i.invariant (ap (chunks header_cell) e))) c.copy.ensures

@@ -3,8 +3,8 @@ use native.Mathlib.Omega.{arith}
 use Rattle.laws.specs.Bytes.{bytes, length_bytes}
 use Rattle.laws.specs.Writing.{go_on}
 use Rattle.decimals.proofs.Digits.{decimal_length}
-use Rattle.runoff.specs.Page.{dash, named_or, round_line}
-use Rattle.runoff.proofs.Lines.{room_behind, written_as, named_or_length, count_cells_length}
+use Rattle.runoff.specs.Page.{dash, round_line}
+use Rattle.runoff.proofs.Lines.{room_behind, named_by, named_or_length, count_cells_length}
 use Rattle.runoff.proofs.page.put_round.Goals as goal
 
 pub put_decimal-first-requires : goal.put_decimal-first-requires
@@ -32,7 +32,7 @@ put_named_or-end-requires c = (
 
 pub put1-requires : goal.put1-requires
 put1-requires c =
-    room_behind 11 1 c.put_named_or-end.ensures (named_or_length dash _ (omega arith))
+    room_behind 11 1 (named_by dash _ c.leaver_among-leaver.ensures c.put_named_or-end.ensures) (named_or_length dash _ (omega arith))
     (room_behind 1 12 c.put1-tab.ensures (omega (arith, length_bytes 1 9))
     (room_behind 108 13 c.put_counts-counted.ensures
     (omega (arith, c.requires.0.few, count_cells_length c.args.candidates c.args.s))
@@ -41,5 +41,5 @@ put1-requires c =
 pub returns : goal.returns
 unfolding round_line bytes
 returns c =
-    let who = written_as (named_or dash) c.put_named_or-end.ensures c.leaver_among-leaver.ensures.0 in
+    let who = named_by dash _ c.leaver_among-leaver.ensures c.put_named_or-end.ensures in
     go_on (go_on c.put_decimal-first.ensures c.put_counts-counted.ensures) (go_on (go_on c.put1-tab.ensures who) c.put1.ensures)

@@ -17,14 +17,14 @@ put_round-to-requires c =
     let h = c.loop-n.invariant in (
       record {
         few = c.requires.few;
-        small = λ i l. omega (arith, c.requires.small, next_few _ _ _ c.next-after.ensures h.few i l);
+        small = λ i l. omega (arith, c.requires.small, next_few _ _ _ c.next-s.ensures h.few i l);
       },
       omega (arith, c.requires.few, c.requires.room, h.short, h.went.to, h.went.wrote.long),
     )
 
 pub loop-n-preserved : goal.loop-n-preserved
 loop-n-preserved c =
-    one_lined _ _ c.requires.few c.loop-n.invariant (omega arith) c.if-s.false c.next-after.ensures c.put_round-to.ensures
+    one_lined _ _ c.requires.few c.loop-n.invariant (omega arith) c.if-s.false c.next-s.ensures c.put_round-to.ensures
 
 -- ---- the end
 

@@ -8,8 +8,8 @@ use Rattle.schedule.proofs.dates.days_before_month.Goals as goal
 pub returns-then-month-lt3 : goal.returns-then-month-lt3
 returns-then-month-lt3 c = (early_days _ _ (omega arith) (omega arith), omega arith)
 
-pub returns : goal.returns
-returns c =
+pub returns-else-month-lt3 : goal.returns-else-month-lt3
+returns-else-month-lt3 c =
     let leap = c.leap_day.ensures in
     let month = c.args.month in
     (ap (λ (x : ℕ). (367 * month - 386) / 12 + x) leap.0 ∙ late_days _ _ (omega arith) (omega arith), omega (arith, leap.1))

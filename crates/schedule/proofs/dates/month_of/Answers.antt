@@ -15,4 +15,4 @@ pub loop-month-preserved : goal.loop-month-preserved
 loop-month-preserved c = next_month c.loop-month.invariant c.days_before_month.ensures.0 (omega arith) (omega arith)
 
 pub returns : goal.returns
-returns c = let at = c.loop-month.invariant in (last_month at (omega arith), (at.first, at.last))
+returns c = (last_month c.loop-month.invariant (omega arith), (omega arith, omega arith))

@@ -1,10 +1,6 @@
 -- `schedule::dates::year_of` meets its contract: the day is not before the year reached.
-use Prim.Native.Nat.{◌-◌}
 use Rattle.schedule.proofs.Located.{Reached}
 use Rattle.schedule.proofs.dates.year_of.Given as goal
 
 abbrev pub invariant-loop-year : goal.invariant-loop-year
 invariant-loop-year l = Reached l.day l.year
-
-abbrev pub decreases-loop-year : goal.decreases-loop-year
-decreases-loop-year l = 2201 - l.year

@@ -1,21 +1,19 @@
 -- `verifier::part_one::judged_ballots` meets its contract: a copy among the ballots that pass, or the fault at which they stop.
 use mathlib.Core.Path.{◌∙◌}
 use native.Mathlib.Omega.{arith}
-use Rattle.laws.specs.Faults.{passed_as, then_fault, then_rest}
 use Rattle.verifier.proofs.Ballots.{judged}
 use Rattle.verifier.proofs.Known.{ballots_reach}
+use Rattle.verifier.proofs.Stages.{err_then, ok_then}
 use Rattle.verifier.proofs.part_one.judged_ballots.Goals as goal
 
-pub first_copy-copy-requires : goal.first_copy-copy-requires
-first_copy-copy-requires c =
-    let s = c in
+pub first_copy-requires : goal.first_copy-requires
+first_copy-requires c =
+    let r = c.args.r in
     let h = c.ballots_passed-passed.ensures in
-    (omega (arith, h.most), ballots_reach s.args.drawn s.args.p s.args.bytes.now _ s.requires.1 h.none)
+    (omega (arith, h.most), ballots_reach r.drawn r.parameters r.bytes.now _ c.requires.1 h.none)
 
-pub returns-in_default : goal.returns-in_default
-returns-in_default c = then_fault _ _ c.first_copy-copy.ensures c.in_default.is ∙ judged c.ballots_passed-passed.ensures
+pub returns-in_err-first_copy : goal.returns-in_err-first_copy
+returns-in_err-first_copy c = err_then _ _ c.in_err-first_copy.ensures (grind arith) ∙ judged c.ballots_passed-passed.ensures
 
 pub returns : goal.returns
-returns c =
-    then_rest _ _ (passed_as c.first_copy-copy.ensures c.in-Nothing.is) c.stopping_fault.ensures
-    ∙ judged c.ballots_passed-passed.ensures
+returns c = ok_then _ _ c.in_ok-first_copy.ensures c.stopping_fault.ensures ∙ judged c.ballots_passed-passed.ensures

@@ -1,20 +1,16 @@
 -- `verifier::part_three::closing_faults` meets its contract: votes, full openings, and then the end.
-use Rattle.laws.specs.Faults.{passed_as, then_fault, then_rest}
+use Rattle.std.proofs.Common.{arith, sym}
+use Rattle.verifier.proofs.Stages.{err_then, ok_then}
 use Rattle.verifier.proofs.part_three.closing_faults.Goals as goal
 
-pub returns-in_default : goal.returns-in_default
-returns-in_default c = then_fault _ _ c.vote_faults-v.ensures c.in_default.is
+pub returns-in_err-vote_faults : goal.returns-in_err-vote_faults
+returns-in_err-vote_faults c = err_then _ _ c.in_err-vote_faults.ensures (grind arith)
 
-pub opened_faults-o-requires : goal.opened_faults-o-requires
-opened_faults-o-requires c =
-    record { dice = c.requires; votes = passed_as c.vote_faults-v.ensures c.in-Nothing.is }
+pub opened_faults-requires : goal.opened_faults-requires
+opened_faults-requires c = record { dice = c.requires; votes = sym c.in_ok-vote_faults.ensures }
 
-pub returns-in_default-o : goal.returns-in_default-o
-returns-in_default-o c =
-    then_rest _ _ (passed_as c.vote_faults-v.ensures c.in-Nothing.is)
-    (then_fault _ _ c.opened_faults-o.ensures c.in_default-o.is)
+pub returns-in_err-opened_faults : goal.returns-in_err-opened_faults
+returns-in_err-opened_faults c = ok_then _ _ c.in_ok-vote_faults.ensures (err_then _ _ c.in_err-opened_faults.ensures (grind arith))
 
 pub returns : goal.returns
-returns c =
-    then_rest _ _ (passed_as c.vote_faults-v.ensures c.in-Nothing.is)
-    (then_rest _ _ (passed_as c.opened_faults-o.ensures c.in-Nothing-o.is) c.end_faults.ensures)
+returns c = ok_then _ _ c.in_ok-vote_faults.ensures (ok_then _ _ c.in_ok-opened_faults.ensures c.end_faults.ensures)

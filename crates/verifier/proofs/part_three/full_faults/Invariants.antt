@@ -1,22 +1,9 @@
 -- `verifier::part_three::full_faults` meets its contract: no full opening passed has a fault.
 use mathlib.Core.Path.{◌≡◌}
-use mathlib.Core.Bool.{Bool}
-use mathlib.Core.List.{List}
-use Prim.Native.Nat.{ℕ, ◌-◌, ◌≤◌}
-use Rattle.laws.specs.declared.Found.{Found}
-use Rattle.laws.specs.declared.Found.TheVariants.{Nothing}
-use Rattle.laws.specs.Faults.{first}
-use Rattle.protocol.specs.declared.Parameters.{Parameters}
+use Rattle.laws.specs.Faults.{Nothing, first}
 use Rattle.protocol.specs.declared.Due.TheVariants.{FullOpening}
 use Rattle.protocol.specs.Judging.{found}
 use Rattle.verifier.proofs.part_three.full_faults.Given as goal
 
--- what is found of one command
-abbrev pub row : Bool → Parameters → List ℕ → ℕ → ℕ → Found
-row drawn p r l i = found drawn p r (FullOpening l i)
-
 abbrev pub invariant-loop-i : goal.invariant-loop-i
-invariant-loop-i l = (l.i ≤ l.p.ballots) × (first (row l.drawn l.p l.bytes l.l) l.i ≡ Nothing)
-
-abbrev pub decreases-loop-i : goal.decreases-loop-i
-decreases-loop-i l = l.p.ballots - l.i
+invariant-loop-i l = first (λ i. found l.r.drawn l.r.parameters l.r.bytes.now (FullOpening l.l i)) l.i ≡ Nothing

@@ -28,20 +28,20 @@ at_list_half-at-requires c =
 
 -- a list half's place is by its list's rank
 place : (c : After-at_list_half-at) →
-    (let s = c.args in c.at_list_half-at.result ≡ list_half_place s.p s.bytes.now s.l s.j)
+    (let s = c.args in c.at_list_half-at.result ≡ list_half_place s.r.parameters s.r.bytes.now s.l s.j)
 unfolding list_half_place
 place c =
     let s = c in
     c.at_list_half-at.ensures.0
-    ∙ ap (at_list_half s.args.p s.args.j) (c.rank.ensures.0 ∙ ap (λ (m : ℕ). set_before m s.args.l) c.mask-mask.ensures)
+    ∙ ap (at_list_half s.args.r.parameters s.args.j) (c.rank.ensures.0 ∙ ap (λ (m : ℕ). set_before m s.args.l) c.mask-mask.ensures)
 
-set : (c : Else-mask-l-eq0) → (let s = c.args in bit (mask_of s.p s.bytes.now) s.l ≢ 0)
+set : (c : Else-mask-l-eq0) → (let s = c.args in bit (mask_of s.r.parameters s.r.bytes.now) s.l ≢ 0)
 set c = bit_not c.args.l c.mask-mask.ensures c.if-mask-l-eq0.false
 
-pub command_fault-requires : goal.command_fault-requires
-command_fault-requires c =
+pub fault-requires : goal.fault-requires
+fault-requires c =
     let s = c in
-    (place c, half_known s.requires.0 s.requires.1 (bit_set _ s.args.l (set (goal.at.command_fault-requires c).Else-mask-l-eq0)))
+    (place c, half_known s.requires.0 s.requires.1 (bit_set _ s.args.l (set (goal.at.fault-requires c).Else-mask-l-eq0)))
 
 pub returns : goal.returns
-returns c = compared_go _ _ _ _ (set (goal.at.returns c).Else-mask-l-eq0) c.command_fault.ensures
+returns c = compared_go _ _ _ _ (set (goal.at.returns c).Else-mask-l-eq0) c.fault.ensures

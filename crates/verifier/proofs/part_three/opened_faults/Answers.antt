@@ -1,26 +1,7 @@
--- `verifier::part_three::opened_faults` meets its contract: no list passed has a fault.
-use native.Mathlib.Omega.{arith}
-use Rattle.laws.specs.Faults.{first_more, passed_as, row_start, row_stop, row_end}
+-- `verifier::part_three::opened_faults` meets its contract: what is found in each list.
+use Rattle.std.proofs.Common.{rules}
+use Rattle.protocol.specs.Judging.{if_opened, full_faults}
 use Rattle.verifier.proofs.part_three.opened_faults.Goals as goal
 
-pub lists-all-requires : goal.lists-all-requires
-lists-all-requires c = c.requires.dice.few
-
-pub loop-l-init : goal.loop-l-init
-loop-l-init c = (omega arith, row_start _)
-
-pub full_if_opened-f-requires : goal.full_if_opened-f-requires
-full_if_opened-f-requires c = (c.requires, omega arith)
-
-pub returns-in_default : goal.returns-in_default
-returns-in_default c =
-    let g = c in
-    row_stop _ _ g.loop-l.l (omega arith) g.loop-l.invariant.1 c.full_if_opened-f.ensures c.in_default.is
-
-pub loop-l-preserved : goal.loop-l-preserved
-loop-l-preserved c =
-    let g = c in
-    (omega arith, first_more _ _ g.loop-l.invariant.1 (passed_as c.full_if_opened-f.ensures c.in-Nothing.is))
-
 pub returns : goal.returns
-returns c = row_end _ _ c.loop-l.l (omega arith) (omega arith) c.loop-l.invariant.1
+returns c = let r = c.args.r in rw (← c.lists.ensures.0) (c.each.ensures (λ l. if_opened r.parameters r.bytes.now l (full_faults r.drawn r.parameters r.bytes.now l)) (λ i result h post. search rules))

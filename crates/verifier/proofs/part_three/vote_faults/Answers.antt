@@ -1,26 +1,9 @@
--- `verifier::part_three::vote_faults` meets its contract: no vote passed has a fault.
-use native.Mathlib.Omega.{arith}
-use Rattle.laws.specs.Faults.{first_more, passed_as, row_start, row_stop, row_end}
-use Rattle.protocol.specs.Judging.{vote_faults}
+-- `verifier::part_three::vote_faults` meets its contract: what is found of each vote.
+use Rattle.std.proofs.Common.{rules}
+use Rattle.protocol.specs.declared.Due.TheVariants.{Vote}
+use Rattle.protocol.specs.Judging.{found, vote_faults}
 use Rattle.verifier.proofs.part_three.vote_faults.Goals as goal
-
-pub loop-i-init : goal.loop-i-init
-loop-i-init c = (omega arith, row_start _)
-
-pub at_vote-at-requires : goal.at_vote-at-requires
-at_vote-at-requires c = (c.requires, omega arith)
-
-pub returns-in_default : goal.returns-in_default
-unfolding vote_faults
-returns-in_default c =
-    let g = c in
-    row_stop _ _ g.loop-i.i (omega arith) g.loop-i.invariant.1 c.command_fault-f.ensures c.in_default.is
-
-pub loop-i-preserved : goal.loop-i-preserved
-loop-i-preserved c =
-    let g = c in
-    (omega arith, first_more _ _ g.loop-i.invariant.1 (passed_as c.command_fault-f.ensures c.in-Nothing.is))
 
 pub returns : goal.returns
 unfolding vote_faults
-returns c = row_end _ _ c.loop-i.i (omega arith) (omega arith) c.loop-i.invariant.1
+returns c = let r = c.args.r in c.each.ensures (λ i. found r.drawn r.parameters r.bytes.now (Vote i)) (λ i result h post. search rules)

@@ -12,6 +12,6 @@ drawn_fault-requires c =
       at,
       record {
         few = s.requires.few.compared;
-        text_is = λ d w. text_at s.args.bytes.now at c.dice_text-text.ensures d (omega (arith, w)) (s.requires.taken.prefix_is d);
+        text_is = λ d w. text_at s.args.r.bytes.now at c.dice_text-text.ensures d (omega (arith, w)) (s.requires.taken.prefix_is d);
       },
     )
