@@ -112,19 +112,27 @@ pub fn put4(out: &mut [u8], at: usize, x: u32) -> usize
     put2(out, next, x)
 }
 
-// Copies src into out from a place on, and answers the next place.
+// Copies src into out from a place on, and answers the next place. (Not std's `copy_from_slice`: with it the archive for C needs `memmove`.)
 pub fn copy(out: &mut [u8], at: usize, src: &[u8]) -> usize
     requires { at + length src.now ≤ length out.old }
     ensures { Went out.old at src.now out.new result }
 {
-    let end = at + src.len();
-    out[at..end].copy_from_slice(src);
-    end
+    for i in 0..src.len() {
+        out[at + i] = src[i];
+    }
+    at + src.len()
 }
 
-// Whether a and b are the same bytes.
+// Whether a and b are the same bytes. It does not stop at the first difference: so the compiler compares many bytes at once.
 pub fn same_bytes(a: &[u8], b: &[u8]) -> bool
     ensures { result ≡ same a.now b.now }
 {
-    a == b
+    if a.len() != b.len() {
+        return false;
+    }
+    let mut equal = true;
+    for i in 0..a.len() {
+        equal &= a[i] == b[i];
+    }
+    equal
 }

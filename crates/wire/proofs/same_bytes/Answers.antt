@@ -1,25 +1,27 @@
--- `wire::same_bytes` meets its contract: a test of two lists is one of their items.
-use mathlib.Core.Path.{◌≡◌, refl, ◌∙◌}
-use mathlib.Core.Bool.{Bool, true, false}
-use mathlib.Core.List.{List, [], ◌∷◌}
-use Prim.Native.Nat.{ℕ}
-use lib.Dec.{eqb}
-use lib.Pointwise.{pointwise}
-use Rattle.std.specs.Prelude.{◌&&◌}
-use Rattle.laws.specs.Tests.{equal, ◌and◌, same}
+-- `wire::same_bytes` meets its contract. The loop: `equal` says whether the bytes passed are equal.
+use mathlib.Core.Path.{◌≡◌, refl, sym, ap, ◌∙◌}
+use native.Mathlib.Omega.{arith}
+use lib.ListN.{length}
+use Rattle.laws.specs.Tests.{equal, every, every_turn, same, same_iff, same_every, refuted}
 use Rattle.wire.proofs.same_bytes.Goals as goal
 
-as_and : (x : Bool) {y z : Bool} → y ≡ z → (x && y) ≡ (x and z)
-unfolding ◌and◌
-as_and true e = e
-as_and false e = refl
+pub returns-then-a-b : goal.returns-then-a-b
+returns-then-a-b c =
+    let a = c.args.a.now in
+    let b = c.args.b.now in
+    sym (refuted (same a b) (λ e. omega (arith, ap length ((same_iff a b).0 e))))
 
-same_is : (a b : List ℕ) → pointwise eqb a b ≡ same a b
-unfolding same equal
-same_is [] [] = refl
-same_is [] (y ∷ ys) = refl
-same_is (x ∷ xs) [] = refl
-same_is (x ∷ xs) (y ∷ ys) = as_and (eqb x y) (same_is xs ys)
+pub loop-i-init : goal.loop-i-init
+unfolding every
+loop-i-init c = refl
+
+pub loop-i-preserved : goal.loop-i-preserved
+unfolding equal
+loop-i-preserved c = every_turn _ _ c.loop-i.invariant
 
 pub returns : goal.returns
-returns c = c.eq.ensures ∙ same_is _ _
+returns c =
+    let a = c.args.a.now in
+    let b = c.args.b.now in
+    let e : c.loop-i.i ≡ length a = omega arith in
+    rw e at c.loop-i.invariant ∙ sym (same_every a b (omega arith))
