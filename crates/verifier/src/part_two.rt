@@ -11,7 +11,7 @@ ghost use Rattle.verifier.specs.Passed.{PartOnePassed, FirstDicePassed};
 ghost use Rattle.protocol.specs.Answers.{found_in};
 
 use super::{Record, each};
-use protocol::{Due, Fault, MOST_BALLOTS};
+use protocol::{Due, Fault};
 
 // The text that mask or sides are drawn from: the 30 characters behind the dice command's byte, and the sponge's digest. No text
 // where nothing is drawn or the characters are not all there.
@@ -43,7 +43,7 @@ fn link_faults(r: Record, l: usize) -> Result<(), Fault>
     ensures { let r₀ = r.entry in found_in result ≡ link_faults r₀.drawn r₀.parameters r₀.bytes.now l }
 {
     let rank = layout::rank(layout::mask(r.parameters, r.bytes), l);
-    let mut marks = [false; MOST_BALLOTS];
+    let mut marks = [false; 4096];
     // not `each`: a link sets a mark for those behind it
     for j in 0..r.parameters.ballots {
         let at = layout::at_link(r.parameters, rank, j);
