@@ -104,7 +104,9 @@ fn argument_at(rt: &impl Env, i: usize) -> Option<Option<u32>> {
 }
 
 // Reads the arguments into the room lent, and answers what is filled of it: nothing where an argument is no date.
-fn read_numbers<'a>(rt: &impl Env, room: &'a mut [u32]) -> &'a [u32] {
+fn read_numbers<'a>(rt: &impl Env, room: &'a mut [u32]) -> &'a [u32]
+    ensures { length result.now ≤ length room.old }
+{
     let mut n = 0;
     for i in 1..usize::MAX {
         match argument_at(rt, i) {
