@@ -112,7 +112,7 @@ pub fn put4(out: &mut [u8], at: usize, x: u32) -> usize
     put2(out, next, x)
 }
 
-// Copies src into out from a place on, and answers the next place. (Not std's `copy_from_slice`: with it the archive for C needs `memmove`.)
+// Copies src into out from a place on, and answers the next place. (std's `copy_from_slice` would make the archive need `memmove`.)
 pub fn copy(out: &mut [u8], at: usize, src: &[u8]) -> usize
     requires { at + length src.now ≤ length out.old }
     ensures { Went out.old at src.now out.new result }
